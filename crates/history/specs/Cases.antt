@@ -1,0 +1,313 @@
+-- The P cases of document 01, P1 to P8, in one table under one statement (`p-cases`), computed from the definitions; and under another
+-- (`own-cases`) histories of our own that tell apart what no P case does.
+--
+-- A case is a first number, the requests each with the reply expected of it, the order of the history that they leave, the places of the
+-- steps in that order's layout, and whether it is the only order. The statement holds every reply, code and job, to what the full history
+-- gives and to what the bounded memory gives. What `only-one` means is proved in Promises (`tried`).
+-- Assumes nothing.
+use mathlib.Core.Path.{_≡_, refl, sym, ap, _∙_}
+use mathlib.Core.Bool.{Bool, true, false}
+use mathlib.Core.Option.{Option, none, some}
+use mathlib.Core.List.{List, [], _∷_, map, List·Memᴰ·head, List·Memᴰ·tail}
+use Prim.Native.Nat.{ℕ}
+use Rattle.graph.specs.Lists.{_∈_, strike}
+use Rattle.graph.specs.Reach.{circular}
+use Rattle.graph.specs.Listing.{ready, lowest-first, forced}
+use Rattle.history.specs.Events.{History, opened, ended, abandoned, kept, open-now, all-steps, kept-steps, wrote, conflict, precedes, has-circle}
+use Rattle.history.specs.Replies.{Request, Reply, want, tests, code-of, event-of, job-of, reply-of, granted-of, full, reply, after, replies, history-of}
+use Rattle.history.specs.Orders.{layout, order-of}
+use Rattle.history.specs.Memory.{fresh, meets, touches, same-kind, step-in, blank, fold, right, open-in, move, held, held-replies}
+
+-- ---- requests and replies, short
+
+abbrev pub open-one : Request
+open-one = record { kind = 1; byte1 = 0; cell = 0; job = 0 }
+
+-- `reads 1 5`: job 1 reads cell 5
+abbrev pub reads : ℕ → ℕ → Request
+reads j c = record { kind = 2; byte1 = 0; cell = c; job = j }
+
+abbrev pub writes : ℕ → ℕ → Request
+writes j c = record { kind = 3; byte1 = 0; cell = c; job = j }
+
+abbrev pub end : ℕ → Request
+end j = record { kind = 4; byte1 = 0; cell = 0; job = j }
+
+abbrev pub abandon : ℕ → Request
+abandon j = record { kind = 5; byte1 = 0; cell = 0; job = j }
+
+-- `granted 1`: code 0, job 1; `refused 7`: code 7, job 0
+abbrev pub granted : ℕ → Reply
+granted j = record { code = 0; job = j }
+
+abbrev pub refused : ℕ → Reply
+refused c = record { code = c; job = 0 }
+
+-- a request with its reply
+pub record Exchange : Type 0 where
+  pub asked : Request
+  pub answered : Reply
+
+infix 70 _gets_
+abbrev pub _gets_ : Request → Reply → Exchange
+r gets a = record { asked = r; answered = a }
+
+-- ---- what is expected of a case, and what is computed
+
+pub record Case : Type 0 where
+  pub first : ℕ
+  pub exchanges : List Exchange
+  pub order : Option (List ℕ)
+  pub laid-out : List ℕ
+  pub only-one : Bool
+
+abbrev pub requests-of : Case → List Request
+requests-of c = map (λ e. e .asked) (c .exchanges)
+
+abbrev pub replies-of : Case → List Reply
+replies-of c = map (λ e. e .answered) (c .exchanges)
+
+pub record Outcome : Type 0 where
+  pub by-history : List Reply
+  pub by-memory : List Reply
+  pub order : Option (List ℕ)
+  pub laid-out : List ℕ
+  pub only-one : Bool
+
+-- is this order the only one: at each of its places, could one job only stand there?
+abbrev pub is-only : History → Option (List ℕ) → Bool
+is-only h none = false
+is-only h (some o) = forced (precedes (kept-steps h)) (kept h) o
+
+-- the places of the steps in the layout of an order
+abbrev pub places : History → Option (List ℕ) → List ℕ
+places h none = []
+places h (some o) = map (λ a. a .at) (layout (kept-steps h) o)
+
+abbrev pub expected : Case → Outcome
+expected c = record { by-history = replies-of c; by-memory = replies-of c; order = c .order; laid-out = c .laid-out; only-one = c .only-one }
+
+-- opens every definition that the table computes with, so that a table of cases needs to open only this one
+unfoldable pub computed : Case → Outcome
+unfolding reply reply-of code-of tests want job-of full after granted-of event-of
+    opened ended abandoned kept open-now all-steps kept-steps wrote conflict has-circle circular strike order-of lowest-first ready
+    right held move open-in step-in blank fold meets touches same-kind
+computed c =
+    let h = history-of (c .first) (requests-of c) in
+    record {
+      by-history = replies (c .first) (requests-of c);
+      by-memory = held-replies right (fresh (c .first)) (requests-of c);
+      order = order-of h;
+      laid-out = places h (order-of h);
+      only-one = is-only h (order-of h);
+    }
+
+-- ---- the cases, each opening its jobs first where document 01 shows no opening
+
+-- P1: all granted
+abbrev pub p1 : Case
+p1 =
+    record {
+      first = 1;
+      exchanges =
+          open-one gets granted 1 ∷ open-one gets granted 2
+          ∷ reads 1 5 gets granted 1 ∷ reads 2 5 gets granted 2
+          ∷ writes 2 5 gets granted 2 ∷ writes 1 6 gets granted 1
+          ∷ end 2 gets granted 2 ∷ end 1 gets granted 1 ∷ [];
+      order = some (1 ∷ 2 ∷ []);
+      laid-out = 2 ∷ 5 ∷ 3 ∷ 4 ∷ [];
+      only-one = true;
+    }
+
+-- P2: P1 with cell 5 in job 1's write, which would close the circle 1, 2, 1
+abbrev pub p2 : Case
+p2 =
+    record {
+      first = 1;
+      exchanges =
+          open-one gets granted 1 ∷ open-one gets granted 2
+          ∷ reads 1 5 gets granted 1 ∷ reads 2 5 gets granted 2
+          ∷ writes 2 5 gets granted 2 ∷ writes 1 5 gets refused 7
+          ∷ end 2 gets granted 2 ∷ end 1 gets granted 1 ∷ [];
+      order = some (1 ∷ 2 ∷ []);
+      laid-out = 2 ∷ 3 ∷ 4 ∷ [];
+      only-one = true;
+    }
+
+-- P3: all granted, and the one order there is does not follow the ends: these come as 1, 3, 2
+abbrev pub p3 : Case
+p3 =
+    record {
+      first = 1;
+      exchanges =
+          open-one gets granted 1 ∷ open-one gets granted 2
+          ∷ reads 2 5 gets granted 2 ∷ writes 1 5 gets granted 1 ∷ end 1 gets granted 1
+          ∷ open-one gets granted 3 ∷ reads 3 6 gets granted 3 ∷ end 3 gets granted 3
+          ∷ writes 2 6 gets granted 2 ∷ end 2 gets granted 2 ∷ [];
+      order = some (3 ∷ 2 ∷ 1 ∷ []);
+      laid-out = 6 ∷ 2 ∷ 8 ∷ 3 ∷ [];
+      only-one = true;
+    }
+
+-- P4: a circle through job 2, which has ended
+abbrev pub p4 : Case
+p4 =
+    record {
+      first = 1;
+      exchanges =
+          open-one gets granted 1 ∷ open-one gets granted 2
+          ∷ reads 1 5 gets granted 1
+          ∷ writes 2 5 gets granted 2 ∷ writes 2 6 gets granted 2 ∷ end 2 gets granted 2
+          ∷ writes 1 6 gets refused 7 ∷ writes 1 7 gets granted 1 ∷ [];
+      order = some (1 ∷ 2 ∷ []);
+      laid-out = 2 ∷ 6 ∷ 3 ∷ 4 ∷ [];
+      only-one = true;
+    }
+
+-- P5: a circle through jobs 2 and 3, which have both ended
+abbrev pub p5 : Case
+p5 =
+    record {
+      first = 1;
+      exchanges =
+          open-one gets granted 1 ∷ open-one gets granted 2 ∷ open-one gets granted 3
+          ∷ reads 1 5 gets granted 1
+          ∷ writes 2 5 gets granted 2 ∷ end 2 gets granted 2
+          ∷ reads 3 5 gets granted 3 ∷ writes 3 8 gets granted 3 ∷ end 3 gets granted 3
+          ∷ reads 1 8 gets refused 7 ∷ [];
+      order = some (1 ∷ 2 ∷ 3 ∷ []);
+      laid-out = 3 ∷ 4 ∷ 6 ∷ 7 ∷ [];
+      only-one = true;
+    }
+
+-- P6: a circle through job 2, which is open; once it is abandoned there is none
+abbrev pub p6 : Case
+p6 =
+    record {
+      first = 1;
+      exchanges =
+          open-one gets granted 1 ∷ open-one gets granted 2 ∷ open-one gets granted 3
+          ∷ writes 1 5 gets granted 1
+          ∷ reads 2 5 gets granted 2 ∷ reads 2 6 gets granted 2
+          ∷ writes 3 6 gets granted 3 ∷ reads 1 6 gets refused 7
+          ∷ abandon 2 gets granted 2 ∷ reads 1 6 gets granted 1 ∷ [];
+      order = some (3 ∷ 1 ∷ []);
+      laid-out = 6 ∷ 3 ∷ 8 ∷ [];
+      only-one = true;
+    }
+
+-- P7: a job's own steps do not conflict; having written it cannot be abandoned
+abbrev pub p7 : Case
+p7 =
+    record {
+      first = 1;
+      exchanges =
+          open-one gets granted 1
+          ∷ reads 1 5 gets granted 1 ∷ writes 1 5 gets granted 1 ∷ reads 1 5 gets granted 1
+          ∷ abandon 1 gets refused 4 ∷ [];
+      order = some (1 ∷ []);
+      laid-out = 1 ∷ 2 ∷ 3 ∷ [];
+      only-one = true;
+    }
+
+-- P8: the last number is issued once
+abbrev pub p8 : Case
+p8 =
+    record {
+      first = 4_294_967_295;
+      exchanges = open-one gets granted 4_294_967_295 ∷ open-one gets refused 6 ∷ [];
+      order = some (4_294_967_295 ∷ []);
+      laid-out = [];
+      only-one = true;
+    }
+
+-- ---- the table
+
+abbrev pub p-table : List Case
+p-table = p1 ∷ p2 ∷ p3 ∷ p4 ∷ p5 ∷ p6 ∷ p7 ∷ p8 ∷ []
+
+-- f and g agree on each row of a table; said row by row, so that a refusal tells its row
+abbrev pub Rows : {X Y : Type 0} → (X → Y) → (X → Y) → List X → Type 0
+Rows f g [] = Unit {0}
+Rows f g (x ∷ l) = (f x ≡ g x) × Rows f g l
+
+pub rows : {X Y : Type 0} (f g : X → Y) {x : X} {l : List X} → Rows f g l → x ∈ l → f x ≡ g x
+rows f g r (List·Memᴰ·head e) = ap f e ∙ (r .0 ∙ ap g (sym e))
+rows f g r (List·Memᴰ·tail m) = rows f g (r .1) m
+
+-- every case of the table comes out as expected
+pub p-cases : (c : Case) → c ∈ p-table → computed c ≡ expected c
+unfolding computed
+p-cases c = rows computed expected (refl, (refl, (refl, (refl, (refl, (refl, (refl, (refl, tt))))))))
+
+-- ---- histories of our own
+
+-- job 1 comes before job 2 and job 2 before job 3; 3 ends before 2 does, so that 1 learns of 3's write by the past of 2
+abbrev pub past-of-ended : Case
+past-of-ended =
+    record {
+      first = 1;
+      exchanges =
+          open-one gets granted 1 ∷ open-one gets granted 2 ∷ open-one gets granted 3
+          ∷ reads 2 6 gets granted 2
+          ∷ writes 3 6 gets granted 3 ∷ writes 3 7 gets granted 3 ∷ end 3 gets granted 3
+          ∷ reads 1 5 gets granted 1
+          ∷ writes 2 5 gets granted 2 ∷ end 2 gets granted 2
+          ∷ reads 1 7 gets refused 7 ∷ [];
+      order = some (1 ∷ 2 ∷ 3 ∷ []);
+      laid-out = 7 ∷ 3 ∷ 8 ∷ 4 ∷ 5 ∷ [];
+      only-one = true;
+    }
+
+-- job 1 comes before job 2 and job 2 before job 3; 2 ends, and 1 leads to 3 by it
+abbrev pub leads-of-ended : Case
+leads-of-ended =
+    record {
+      first = 1;
+      exchanges =
+          open-one gets granted 1 ∷ open-one gets granted 2 ∷ open-one gets granted 3
+          ∷ reads 1 5 gets granted 1
+          ∷ writes 2 5 gets granted 2 ∷ reads 2 6 gets granted 2
+          ∷ writes 3 6 gets granted 3 ∷ end 2 gets granted 2
+          ∷ writes 3 8 gets granted 3 ∷ reads 1 8 gets refused 7 ∷ [];
+      order = some (1 ∷ 2 ∷ 3 ∷ []);
+      laid-out = 3 ∷ 4 ∷ 5 ∷ 6 ∷ 8 ∷ [];
+      only-one = true;
+    }
+
+-- job 1 comes before job 2 and job 2 before job 3; 3 ends, then 2 is abandoned, and nothing is left between 1 and 3
+abbrev pub chain-abandoned : Case
+chain-abandoned =
+    record {
+      first = 1;
+      exchanges =
+          open-one gets granted 1 ∷ open-one gets granted 2 ∷ open-one gets granted 3
+          ∷ writes 1 5 gets granted 1
+          ∷ reads 2 5 gets granted 2 ∷ reads 2 6 gets granted 2
+          ∷ writes 3 6 gets granted 3 ∷ writes 3 7 gets granted 3 ∷ end 3 gets granted 3
+          ∷ abandon 2 gets granted 2 ∷ reads 1 7 gets granted 1 ∷ [];
+      order = some (3 ∷ 1 ∷ []);
+      laid-out = 6 ∷ 7 ∷ 3 ∷ 10 ∷ [];
+      only-one = true;
+    }
+
+-- each job reads before the other does: no conflict, and either order will do. No P case tells that reads do not clash
+abbrev pub reads-alone : Case
+reads-alone =
+    record {
+      first = 1;
+      exchanges =
+          open-one gets granted 1 ∷ open-one gets granted 2
+          ∷ reads 1 5 gets granted 1 ∷ reads 2 5 gets granted 2
+          ∷ reads 2 6 gets granted 2 ∷ reads 1 6 gets granted 1 ∷ [];
+      order = some (1 ∷ 2 ∷ []);
+      laid-out = 2 ∷ 5 ∷ 3 ∷ 4 ∷ [];
+      only-one = false;
+    }
+
+abbrev pub own-table : List Case
+own-table = past-of-ended ∷ leads-of-ended ∷ chain-abandoned ∷ reads-alone ∷ []
+
+pub own-cases : (c : Case) → c ∈ own-table → computed c ≡ expected c
+unfolding computed
+own-cases c = rows computed expected (refl, (refl, (refl, (refl, tt))))

@@ -1,0 +1,164 @@
+-- What was granted: events, the kept history, conflict, precedence, circle.
+--
+-- A history is the list of granted requests, oldest first. A step is a granted read or write together with its place in the
+-- history, so that two equal requests are two steps. Abandoning a job takes all its steps out of the kept history.
+-- Each relation stands here twice: as a proposition, to be believed, and as a test that computes, joined by a theorem in EventLaws.
+-- Assumes nothing.
+use mathlib.Core.Path.{_≡_}
+use mathlib.Core.Bool.{Bool, true, false, not, _&&_, _||_}
+use mathlib.Core.List.{List, [], _∷_, _++_}
+use Prim.Native.Nat.{ℕ, zero, suc}
+use lib.Dec.{T, eqb}
+use Rattle.graph.specs.Decide.{some-of}
+use Rattle.graph.specs.Lists.{only, Before, strike}
+use Rattle.graph.specs.Walk.{Circle}
+use Rattle.graph.specs.Reach.{circular}
+
+-- ---- events
+
+-- the kinds of steps
+pub data Kind : Type 0 where
+  read write : Kind
+
+abbrev pub kinds : List Kind
+kinds = read ∷ write ∷ []
+
+-- the table of clashes: at least one of the two is a write
+abbrev pub clash : Kind → Kind → Bool
+clash read read = false
+clash read write = true
+clash write read = true
+clash write write = true
+
+-- does a step of this kind change its cell, so that its job can no longer be abandoned?
+abbrev pub alters : Kind → Bool
+alters read = false
+alters write = true
+
+-- each with its job; a step also with its kind and its cell
+pub data Event : Type 0 where
+  opens : ℕ → Event
+  steps : Kind → ℕ → ℕ → Event
+  ends : ℕ → Event
+  abandons : ℕ → Event
+
+abbrev pub History : Type 0
+History = List Event
+
+-- ---- the jobs of a history
+
+-- what the events of a history give, one after the other
+abbrev pub gather : {X : Type 0} → (Event → List X) → History → List X
+gather f [] = []
+gather f (e ∷ h) = f e ++ gather f h
+
+abbrev pub opened-by : Event → List ℕ
+opened-by (opens j) = j ∷ []
+opened-by (steps k j c) = []
+opened-by (ends j) = []
+opened-by (abandons j) = []
+
+abbrev pub ended-by : Event → List ℕ
+ended-by (opens j) = []
+ended-by (steps k j c) = []
+ended-by (ends j) = j ∷ []
+ended-by (abandons j) = []
+
+abbrev pub abandoned-by : Event → List ℕ
+abandoned-by (opens j) = []
+abandoned-by (steps k j c) = []
+abandoned-by (ends j) = []
+abandoned-by (abandons j) = j ∷ []
+
+-- is the job in the list?
+abbrev pub has : List ℕ → ℕ → Bool
+has l j = some-of (λ i. eqb i j) l
+
+-- the jobs opened, ended, abandoned, each in the order in which they were
+unfoldable pub opened : History → List ℕ
+opened h = gather opened-by h
+
+unfoldable pub ended : History → List ℕ
+ended h = gather ended-by h
+
+unfoldable pub abandoned : History → List ℕ
+abandoned h = gather abandoned-by h
+
+-- kept: opened and not abandoned, ended or not
+unfoldable pub kept : History → List ℕ
+kept h = only (λ j. not (has (abandoned h) j)) (opened h)
+
+-- open now: opened, not ended, not abandoned
+unfoldable pub open-now : History → List ℕ
+open-now h = only (λ j. not (has (ended h) j)) (kept h)
+
+-- ---- steps
+
+-- a granted read or write, with its place in the history
+pub record Step : Type 0 where
+  pub at : ℕ
+  pub kind : Kind
+  pub job : ℕ
+  pub cell : ℕ
+
+-- the step that the event at place n is
+abbrev pub step-by : ℕ → Event → List Step
+step-by n (opens j) = []
+step-by n (steps k j c) = record { at = n; kind = k; job = j; cell = c } ∷ []
+step-by n (ends j) = []
+step-by n (abandons j) = []
+
+-- the steps of events that stand from place n on
+abbrev pub steps-from : ℕ → History → List Step
+steps-from n [] = []
+steps-from n (e ∷ h) = step-by n e ++ steps-from (suc n) h
+
+-- every granted step
+unfoldable pub all-steps : History → List Step
+all-steps h = steps-from zero h
+
+-- the kept history: the steps of jobs that are not abandoned
+unfoldable pub kept-steps : History → List Step
+kept-steps h = only (λ s. not (has (abandoned h) (s .job))) (all-steps h)
+
+-- has the job a granted write?
+unfoldable pub wrote : History → ℕ → Bool
+wrote h j = some-of (λ s. eqb (s .job) j && alters (s .kind)) (all-steps h)
+
+-- ---- conflict and precedence
+
+-- two steps conflict when they belong to different jobs, name the same cell, and their kinds clash
+pub record Conflict (a b : Step) : Type 0 where
+  pub others : a .job ≡ b .job → ⊥
+  pub same-cell : a .cell ≡ b .cell
+  pub clashes : T (clash (a .kind) (b .kind))
+
+unfoldable pub conflict : Step → Step → Bool
+conflict a b = not (eqb (a .job) (b .job)) && (eqb (a .cell) (b .cell) && clash (a .kind) (b .kind))
+
+-- job i precedes job j when a step of i conflicts with a later step of j
+pub record Precedes (s : List Step) (i j : ℕ) : Type 0 where
+  pub earlier : Step
+  pub later : Step
+  pub in-order : Before earlier later s
+  pub conflicting : Conflict earlier later
+  pub earlier-job : earlier .job ≡ i
+  pub later-job : later .job ≡ j
+
+abbrev pub precedes : List Step → ℕ → ℕ → Bool
+precedes [] i j = false
+precedes (a ∷ s) i j = (eqb (a .job) i && some-of (λ b. eqb (b .job) j && conflict a b) s) || precedes s i j
+
+-- ---- circle
+
+-- a chain of precedences back to its start; no job precedes itself, so it has two jobs or more
+abbrev pub Circular : List Step → Type 0
+Circular s = Circle (Precedes s)
+
+-- the jobs that have steps, each once
+abbrev pub acting : List Step → List ℕ
+acting [] = []
+acting (a ∷ s) = a .job ∷ strike (a .job) (acting s)
+
+unfoldable pub has-circle : List Step → Bool
+has-circle s = circular (precedes s) (acting s)

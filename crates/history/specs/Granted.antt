@@ -1,0 +1,145 @@
+-- What the full history grants. A grant was tested (`granted-proper`); so every history of granted requests is in turn and has no circle
+-- (`granted-sound`), and every number was issued once.
+-- Assumes nothing.
+use mathlib.Core.Path.{_≡_, refl, sym, ap, _∙_, subst}
+use mathlib.Core.Logic.{_⊎_, inl, inr, ⊎-elim}
+use mathlib.Core.Bool.{Bool, true, false, not, cond}
+use mathlib.Core.List.{List, [], _∷_, _++_, append-nil, List·Memᴰ·not-nil, List·Memᴰ·eq-of-singleton}
+use Prim.Native.Nat.{ℕ, suc, _+_, _≤_, _<_}
+use native.Mathlib.Omega.{arith}
+use lib.Dec.{T, leb, eqb}
+use lib.ListN.{length, length-append}
+use Rattle.graph.specs.Decide.{eq-test, le-test, answer, true-is}
+use Rattle.graph.specs.Lists.{_∈_, Before, before-nil, before-from-only}
+use Rattle.graph.specs.Walk.{Via, one, step, Any, carry}
+use Rattle.history.specs.Events.{Event, opens, steps, ends, abandons, History, opened, open-now, Step, all-steps, kept-steps, Precedes, Circular}
+use Rattle.history.specs.Replies.{cells, numbers, Request, Want, an-open, a-step, an-end, an-abandon, nothing, want, Facts, first-of, tests, code-of, event-of, granted-of, full, after, history-from, history-of}
+use Rattle.history.specs.Turns.{InTurn, Turns}
+use Rattle.history.specs.EventLaws.{precedes-in}
+use Rattle.history.specs.CircleLaws.{has-circle-test}
+use Rattle.history.specs.TurnLaws.{opened-grows, stays, which-in, has-test, kept-opens, kept-ends, kept-abandons, turns-next}
+
+-- a bound that was tested and not reached
+pub below-bound : (n c : ℕ) → (T (leb n c) → ⊥) → c < n
+below-bound n c h = ⊎-elim (λ le. absurd (h (le-test n c .shows le))) (λ no. let q : (n ≤ c) → ⊥ = no in omega arith) (answer (le-test n c))
+
+-- ---- what a grant has been tested for
+
+abbrev pub Proper : Facts → Event → Type 0
+Proper f (opens n) = (n ≡ f .next) × (f .next < numbers)
+Proper f (steps k j c) = T (f .is-open j) × (c < cells) × (T (f .closes k j c) → ⊥)
+Proper f (ends j) = T (f .is-open j)
+Proper f (abandons j) = T (f .is-open j) × (T (f .has-written j) → ⊥)
+
+-- a code that is 0 was tested and did not hold, and no later one did
+passed : (b : Bool) (n x : ℕ) → cond b (suc n) x ≡ 0 → (T b → ⊥) × (x ≡ 0)
+passed true n x e = absurd (let z : suc n ≡ 0 = e in omega arith)
+passed false n x e = (λ t. t, e)
+
+undenied : (b : Bool) → (T (not b) → ⊥) → T b
+undenied true h = tt
+undenied false h = h tt
+
+module _ (f : Facts) where
+  proper-of : (w : Want) (j c : ℕ) → first-of (tests f w j c) ≡ 0 → (e : Event) × (event-of (f .next) w j c ≡ e ∷ []) × Proper f e
+  unfolding tests event-of
+  proper-of an-open j c z =
+      (opens (f .next), refl, (refl, below-bound numbers (f .next) (passed (leb numbers (f .next)) 5 _ z .0)))
+  proper-of (a-step k) j c z =
+      let p = passed (leb cells c) 1 _ z in
+      let q = passed (not (f .is-open j)) 2 _ (p .1) in
+      (steps k j c, refl, (undenied (f .is-open j) (q .0), below-bound cells c (p .0), passed (f .closes k j c) 6 0 (q .1) .0))
+  proper-of an-end j c z = (ends j, refl, undenied (f .is-open j) (passed (not (f .is-open j)) 2 0 z .0))
+  proper-of an-abandon j c z =
+      let q = passed (not (f .is-open j)) 2 _ z in
+      (abandons j, refl, (undenied (f .is-open j) (q .0), passed (f .has-written j) 3 0 (q .1) .0))
+  proper-of nothing j c z = absurd (passed true 0 0 z .0 tt)
+
+  -- a request grants nothing, or one event that was tested
+  pub granted-proper : (r : Request) → (granted-of f r ≡ []) ⊎ ((e : Event) × (granted-of f r ≡ e ∷ []) × Proper f e)
+  unfolding granted-of code-of
+  granted-proper r = go (eqb (code-of f r) 0) refl
+    where
+      event : List Event
+      event = event-of (f .next) (want (r .kind)) (r .job) (r .cell)
+
+      go : (b : Bool) → eqb (code-of f r) 0 ≡ b → (cond (eqb (code-of f r) 0) event [] ≡ []) ⊎ ((e : Event) × (cond (eqb (code-of f r) 0) event [] ≡ e ∷ []) × Proper f e)
+      go true q =
+          let z : code-of f r ≡ 0 = eq-test (code-of f r) 0 .holds (true-is q) in
+          let p = proper-of (want (r .kind)) (r .job) (r .cell) (passed (not (eqb (r .byte1) 0)) 0 _ z .1) in
+          inr (p .0, ap (λ (b : Bool). cond b event []) q ∙ p .1, p .2)
+      go false q = inl (ap (λ (b : Bool). cond b event []) q)
+
+-- what the full history grants is in turn, and leaves no circle
+abbrev Issued : ℕ → History → Type 0
+Issued first h = (j : ℕ) → j ∈ opened h → j < first + length (opened h)
+
+module _ (first : ℕ) (h : History) (issued : Issued first h) where
+  pub proper-in-turn : (e : Event) → Proper (full first h) e → InTurn h e
+  unfolding full
+  proper-in-turn (opens n) p = λ i m. let q = issued i m in let r = p .0 in omega arith
+  proper-in-turn (steps k j c) p = (has-test (open-now h) j .holds (p .0), p .1)
+  proper-in-turn (ends j) p = has-test (open-now h) j .holds p
+  proper-in-turn (abandons j) p = (has-test (open-now h) j .holds (p .0), p .1)
+
+  issued-next : (e : Event) → Proper (full first h) e → Issued first (h ++ e ∷ [])
+  unfolding full
+  issued-next (opens n) p j m =
+      let more : length (opened (h ++ opens n ∷ [])) ≡ length (opened h) + 1 = ap length (opened-grows h (opens n) .joined) ∙ length-append (opened h) (n ∷ []) in
+      ⊎-elim (λ old. let q = issued j old in omega arith) (λ fresh. let q : j ≡ n = List·Memᴰ·eq-of-singleton fresh in let r = p .0 in omega arith) (which-in (opened-grows h (opens n)) m)
+  issued-next (steps k i c) p j m = subst (λ (l : List ℕ). j ∈ l → j < first + length l) (sym (stays (opened-grows h (steps k i c)))) (issued j) m
+  issued-next (ends i) p j m = subst (λ (l : List ℕ). j ∈ l → j < first + length l) (sym (stays (opened-grows h (ends i)))) (issued j) m
+  issued-next (abandons i) p j m = subst (λ (l : List ℕ). j ∈ l → j < first + length l) (sym (stays (opened-grows h (abandons i)))) (issued j) m
+
+no-circle-next : (first : ℕ) (h : History) → (Circular (kept-steps h) → ⊥) → (e : Event) → Proper (full first h) e → Circular (kept-steps (h ++ e ∷ [])) → ⊥
+unfolding full
+no-circle-next first h none (opens n) p z = none (subst Circular (kept-opens h n) z)
+no-circle-next first h none (steps k j c) p z = p .2 (has-circle-test (kept-steps (h ++ steps k j c ∷ [])) .shows z)
+no-circle-next first h none (ends j) p z = none (subst Circular (kept-ends h j) z)
+no-circle-next first h none (abandons j) p z =
+    let w = subst Circular (kept-abandons h j) z in
+    none (w .0, carry (λ i x r. precedes-in r (before-from-only (λ a. not (eqb (a .job) j)) (kept-steps h) (r .in-order))) (λ x n. n) (w .1))
+
+-- a history in turn whose numbers were issued one after the other, with no circle
+pub record Sound (first : ℕ) (h : History) : Type 0 where
+  pub turns : Turns h
+  pub issued : Issued first h
+  pub no-circle : Circular (kept-steps h) → ⊥
+
+pub sound-start : (first : ℕ) → Sound first []
+unfolding opened
+sound-start first = record { turns = tt; issued = λ j m. absurd (List·Memᴰ·not-nil m); no-circle = λ z. nothing-precedes (z .1) }
+  where
+    empty : kept-steps [] ≡ []
+    empty = unfold kept-steps all-steps in refl
+
+    idle : {i j : ℕ} → Precedes (kept-steps []) i j → ⊥
+    idle p = before-nil (subst (λ (l : List Step). Before (p .earlier) (p .later) l) empty (p .in-order))
+
+    nothing-precedes : {i j : ℕ} → Via (Precedes (kept-steps [])) Any i j → ⊥
+    nothing-precedes (one p) = idle p
+    nothing-precedes (step p n w) = idle p
+
+pub sound-next : {first : ℕ} {h : History} (e : Event) → Sound first h → Proper (full first h) e → Sound first (h ++ e ∷ [])
+sound-next {first} {h} e s p =
+    record {
+      turns = turns-next [] h e (s .turns) (proper-in-turn first h (s .issued) e p);
+      issued = issued-next first h (s .issued) e p;
+      no-circle = no-circle-next first h (s .no-circle) e p;
+    }
+
+pub sound-after : {first : ℕ} {h : History} (r : Request) → Sound first h → Sound first (after first h r)
+unfolding after
+sound-after {first} {h} r s =
+    ⊎-elim
+    (λ q. subst (λ (l : List Event). Sound first (h ++ l)) (sym q) (subst (Sound first) (sym (append-nil h)) s))
+    (λ q. subst (λ (l : List Event). Sound first (h ++ l)) (sym (q .1)) (sound-next (q .0) s (q .2)))
+    (granted-proper (full first h) r)
+
+sound-from : {first : ℕ} {h : History} (rs : List Request) → Sound first h → Sound first (history-from first h rs)
+sound-from [] s = s
+sound-from (r ∷ rs) s = sound-from rs (sound-after r s)
+
+-- every history of granted requests is in turn and has no circle
+pub granted-sound : (first : ℕ) (rs : List Request) → Sound first (history-of first rs)
+granted-sound first rs = sound-from rs (sound-start first)

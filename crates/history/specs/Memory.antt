@@ -1,0 +1,125 @@
+-- The bounded memory: what is held of the open jobs, as Bool-valued tables over job numbers, and the rule that moves it.
+--
+-- own: a job's reads and writes. past: the reads and writes of the ended jobs that an open job leads to by ended jobs only. leads: which
+-- open job leads to which other, directly or by ended jobs only. A chain through an open job is not folded in, because that job may yet
+-- be abandoned. Tables of jobs that are not open are blank.
+--
+-- The rule is three functions (`Rule`), so that a wrong build is another rule over the same memory (WrongBuilds).
+-- Assumes nothing.
+use mathlib.Core.Bool.{Bool, true, false, not, _&&_, _||_}
+use mathlib.Core.List.{List, [], _∷_, _++_}
+use Prim.Native.Nat.{ℕ, zero, suc}
+use lib.Dec.{eqb}
+use lib.ListN.{length}
+use Rattle.graph.specs.Decide.{some-of}
+use Rattle.graph.specs.Lists.{strike}
+use Rattle.graph.specs.Reach.{reach}
+use Rattle.history.specs.Events.{Kind, read, write, kinds, clash, alters, Event, opens, steps, ends, abandons, has}
+use Rattle.history.specs.Replies.{cells, Request, Reply, Facts, reply-of, granted-of}
+
+-- which cells were touched, by kind of step
+abbrev pub Footprint : Type 0
+Footprint = Kind → ℕ → Bool
+
+pub record Memory : Type 0 where
+  pub next : ℕ
+  pub jobs : List ℕ
+  pub own : ℕ → Footprint
+  pub past : ℕ → Footprint
+  pub leads : ℕ → ℕ → Bool
+
+abbrev pub fresh : ℕ → Memory
+fresh first = record { next = first; jobs = []; own = λ j k c. false; past = λ j k c. false; leads = λ i j. false }
+
+-- ---- the rule
+
+-- a footprint clashes with a step of kind k on cell c
+unfoldable pub meets : Footprint → Kind → ℕ → Bool
+meets f k c = some-of (λ k′. f k′ c && clash k′ k) kinds
+
+-- job i comes to lead to j at j's step: another job's own steps clash with it, or any job's past does, j's too
+unfoldable pub touches : Memory → Kind → ℕ → ℕ → ℕ → Bool
+touches m k j c i = (not (eqb i j) && meets (m .own i) k c) || meets (m .past i) k c
+
+unfoldable pub same-kind : Kind → Kind → Bool
+same-kind read read = true
+same-kind read write = false
+same-kind write read = false
+same-kind write write = true
+
+-- a step of j: new leads to j, and j's own gains the cell
+unfoldable pub step-in : Memory → Kind → ℕ → ℕ → Memory
+step-in m k j c =
+    record {
+      next = m .next;
+      jobs = m .jobs;
+      own = λ i k′ c′. m .own i k′ c′ || (eqb i j && (same-kind k′ k && eqb c′ c));
+      past = m .past;
+      leads = λ i x. m .leads i x || (eqb x j && touches m k j c i);
+    }
+
+-- job j is open no more: its tables are blanked, and it is struck out everywhere
+unfoldable pub blank : Memory → ℕ → Memory
+blank m j =
+    record {
+      next = m .next;
+      jobs = strike j (m .jobs);
+      own = λ i k c. not (eqb i j) && m .own i k c;
+      past = λ i k c. not (eqb i j) && m .past i k c;
+      leads = λ i x. not (eqb i j) && (not (eqb x j) && m .leads i x);
+    }
+
+-- what leads to j takes over j's own, past and leads
+unfoldable pub fold : Memory → ℕ → Memory
+fold m j =
+    record {
+      next = m .next;
+      jobs = m .jobs;
+      own = m .own;
+      past = λ i k c. m .past i k c || (m .leads i j && (m .own j k c || m .past j k c));
+      leads = λ i x. m .leads i x || (m .leads i j && m .leads j x);
+    }
+
+pub record Rule : Type 0 where
+  pub at-step : Memory → Kind → ℕ → ℕ → Memory
+  pub at-end : Memory → ℕ → Memory
+  pub at-abandon : Memory → ℕ → Memory
+
+unfoldable pub right : Rule
+right = record { at-step = step-in; at-end = λ m j. blank (fold m j) j; at-abandon = blank }
+
+-- ---- the machine of a rule
+
+unfoldable pub open-in : Memory → ℕ → Memory
+open-in m j = record { next = suc j; jobs = m .jobs ++ j ∷ []; own = m .own; past = m .past; leads = m .leads }
+
+unfoldable pub move : Rule → Memory → Event → Memory
+move u m (opens j) = open-in m j
+move u m (steps k j c) = u .at-step m k j c
+move u m (ends j) = u .at-end m j
+move u m (abandons j) = u .at-abandon m j
+
+abbrev pub move-all : Rule → Memory → List Event → Memory
+move-all u m [] = m
+move-all u m (e ∷ es) = move-all u (move u m e) es
+
+-- the numbers below n
+abbrev pub below : ℕ → List ℕ
+below zero = []
+below (suc n) = n ∷ below n
+
+-- a step is refused when, with its leads, a chain of leads goes from its job back to it over open jobs
+unfoldable pub held : Rule → Memory → Facts
+held u m =
+    record {
+      is-open = has (m .jobs);
+      has-written = λ j. some-of (λ k. alters k && some-of (λ c. m .own j k c) (below cells)) kinds;
+      count = length (m .jobs);
+      next = m .next;
+      closes = λ k j c. let l = u .at-step m k j c .leads in reach l (m .jobs) j j;
+    }
+
+-- from a memory and a list of requests: the replies, one by one
+abbrev pub held-replies : Rule → Memory → List Request → List Reply
+held-replies u m [] = []
+held-replies u m (r ∷ rs) = reply-of (held u m) r ∷ held-replies u (move-all u m (granted-of (held u m) r)) rs

@@ -1,0 +1,175 @@
+-- The promises: what the definitions of this crate and of graph give, one page. Each is proved in the file that its proof cites.
+--
+-- To be believed for them: Events (events, conflict, precedence, circle), Replies (the full history's replies), Memory (the bounded memory),
+-- Tables (what its tables mean), Turns, Orders (layout, accepted), Run (what jobs read and leave), and of graph Walk, Lists and Listing.
+-- In order: circles; replies; the bounded memory; orders; what the auditor asked; the lowest-first order; granted histories; the table of cases.
+-- Assumes nothing.
+use mathlib.Core.Path.{_≡_, sym, ap, _∙_, subst}
+use mathlib.Core.Logic.{_↔_, ⊎-elim}
+use mathlib.Core.Bool.{Bool, not, cond}
+use mathlib.Core.Option.{Option, none, some}
+use mathlib.Core.List.{List, [], _∷_, _++_, append-nil}
+use Prim.Native.Nat.{ℕ, _<_}
+use lib.Dec.{T}
+use native.Mathlib.Omega.{arith}
+use Rattle.graph.specs.Decide.{Decides, answer, test-true, test-false, eq-test, le-test}
+use Rattle.graph.specs.Lists.{_∈_}
+use Rattle.graph.specs.Listing.{Forward, LowestFirst}
+use Rattle.graph.specs.ListingLaws.{lowest-only, forced-only}
+use Rattle.history.specs.Events.{Kind, steps, History, open-now, kept, Step, all-steps, kept-steps, Precedes, Circular, has-circle, has}
+use Rattle.history.specs.Replies.{cells, Request, Want, a-step, want, tests, first-of, code-of, event-of, reply-of, granted-of, full, reply, after, replies, history-of}
+use Rattle.history.specs.Turns.{Turns}
+use Rattle.history.specs.Memory.{fresh, right, move-all, held-replies}
+use Rattle.history.specs.Tables.{Tells}
+use Rattle.history.specs.Orders.{layout, Keeps, Accepted, order-of}
+use Rattle.history.specs.Run.{Program, run, start, last-write}
+use Rattle.history.specs.Cases.{Case, requests-of, replies-of, is-only, computed, expected, Outcome, p-table, p-cases}
+use Rattle.history.specs.EventLaws.{precedes-test}
+use Rattle.history.specs.CircleLaws.{has-circle-test}
+use Rattle.history.specs.TurnLaws.{has-test}
+use Rattle.history.specs.MemoryTells.{tables-tell}
+use Rattle.history.specs.Granted.{granted-sound}
+use Rattle.history.specs.Exact.{exact}
+use Rattle.history.specs.LayoutLaws.{Onward, keeps-forward, forward-keeps}
+use Rattle.history.specs.OrderLaws.{accepted-forward, forward-accepted, same-last-write, same-read, same-cells, same-sights, accepted-no-circle, order-lowest, lowest-order, order-accepted, no-order-circle, order-exists, order-least}
+
+-- ---- circles
+
+-- the test holds exactly when there is a circle: a test that holds yields the circle, a circle makes it hold
+pub circle-decided : (s : List Step) → Decides (has-circle s) (Circular s)
+circle-decided = has-circle-test
+
+-- ---- replies
+
+-- a well-formed step of an open job on a real cell is granted exactly when with it the kept history has no circle, and else gets 7
+pub record StepReply (first : ℕ) (h : History) (k : Kind) (r : Request) : Type 0 where
+  pub granted : (Circular (kept-steps (h ++ steps k (r .job) (r .cell) ∷ [])) → ⊥) ↔ (reply first h r .code ≡ 0)
+  pub refused : Circular (kept-steps (h ++ steps k (r .job) (r .cell) ∷ [])) ↔ (reply first h r .code ≡ 7)
+
+step-code : (first : ℕ) (h : History) (k : Kind) (r : Request) → want (r .kind) ≡ a-step k → r .byte1 ≡ 0 → r .job ∈ open-now h → r .cell < cells
+    → reply first h r .code ≡ cond (has-circle (kept-steps (h ++ steps k (r .job) (r .cell) ∷ []))) 7 0
+unfolding reply reply-of code-of tests full
+step-code first h k r asks zero-byte is-open real =
+    let c = has-circle (kept-steps (h ++ steps k (r .job) (r .cell) ∷ [])) in
+    ap (λ (b : Bool). cond (not b) 1 (first-of (tests (full first h) (want (r .kind)) (r .job) (r .cell)))) (test-true (eq-test (r .byte1) 0) zero-byte)
+    ∙ ap (λ (w : Want). first-of (tests (full first h) w (r .job) (r .cell))) asks
+    ∙ ap (λ (b : Bool). cond b 2 (cond (not (has (open-now h) (r .job))) 3 (cond c 7 0))) (test-false (le-test cells (r .cell)) (λ q. omega arith))
+    ∙ ap (λ (b : Bool). cond (not b) 3 (cond c 7 0)) (test-true (has-test (open-now h) (r .job)) is-open)
+
+pub step-reply : (first : ℕ) (h : History) (k : Kind) (r : Request) → want (r .kind) ≡ a-step k → r .byte1 ≡ 0 → r .job ∈ open-now h → r .cell < cells → StepReply first h k r
+step-reply first h k r asks zero-byte is-open real =
+    let d = has-circle-test (kept-steps (h ++ steps k (r .job) (r .cell) ∷ [])) in
+    let code = step-code first h k r asks zero-byte is-open real in
+    record {
+      granted = (λ free. code ∙ ap (λ (b : Bool). cond b 7 0) (test-false d free), λ e z. let q : _≡_ {A = ℕ} 7 0 = sym (code ∙ ap (λ (b : Bool). cond b 7 0) (test-true d z)) ∙ e in omega arith);
+      refused = (
+        λ z. code ∙ ap (λ (b : Bool). cond b 7 0) (test-true d z),
+        λ e. ⊎-elim (λ z. z) (λ free. absurd (let q : _≡_ {A = ℕ} 0 7 = sym (code ∙ ap (λ (b : Bool). cond b 7 0) (test-false d free)) ∙ e in omega arith)) (answer d),
+      );
+    }
+
+-- a refusal changes nothing: the history stays
+pub refusal-stays : (first : ℕ) (h : History) (r : Request) → (reply first h r .code ≡ 0 → ⊥) → after first h r ≡ h
+unfolding reply reply-of after granted-of
+refusal-stays first h r refused =
+    ap (λ (b : Bool). h ++ cond b (event-of (full first h .next) (want (r .kind)) (r .job) (r .cell)) []) (test-false (eq-test (code-of (full first h) r) 0) refused)
+    ∙ append-nil h
+
+-- ---- the bounded memory
+
+-- after every list of events in turn, circle or none, its tables are what the history says
+pub memory-tells : (first : ℕ) (h : History) → Turns h → Tells h (move-all right (fresh first) h)
+memory-tells = tables-tell
+
+-- from the fresh memory through any list of requests: the replies of the full history, one by one
+pub memory-exact : (first : ℕ) (rs : List Request) → held-replies right (fresh first) rs ≡ replies first rs
+memory-exact = exact
+
+-- ---- orders
+
+-- a layout keeps every conflicting pair exactly when every precedence goes forward in the order
+pub keeps-exactly : (s : List Step) (o : List ℕ) → Keeps s (layout s o) ↔ Onward s o
+keeps-exactly s o = (keeps-forward, forward-keeps)
+
+-- an order of a history in turn is accepted exactly when it names each kept job once and every precedence goes forward in it
+pub accepted-exactly : (h : History) → Turns h → (o : List ℕ) → Accepted h o ↔ Forward (Precedes (kept-steps h)) (kept h) o
+accepted-exactly h t o = (accepted-forward h t, forward-accepted h t)
+
+-- then wherever a kept step r stands, in the log after p and in the layout after q, the last write of its cell is the same one, or none in both
+pub same-reads : (h : History) → Turns h → (o : List ℕ) → Accepted h o → (r : Step) (p p′ q q′ : List Step)
+    → kept-steps h ≡ p ++ r ∷ p′ → layout (kept-steps h) o ≡ q ++ r ∷ q′ → last-write (r .cell) p ≡ last-write (r .cell) q
+same-reads h t o a r p p′ q q′ = same-read h t a r p p′ q q′
+
+-- and each cell ends with the same write
+pub same-ends : (h : History) → Turns h → (o : List ℕ) → Accepted h o → (c : ℕ) → last-write c (kept-steps h) ≡ last-write c (layout (kept-steps h) o)
+same-ends h t o a c = same-last-write h t a c
+
+-- ---- what the auditor asked
+
+-- whatever the jobs compute from what they have read, over values of any type and from any cells: run one at a time in an accepted order,
+-- the jobs leave every cell as running the log did, and every read of a kept job shows the same value
+pub record AsTheLog {ℓ} (X : Type ℓ) (f : Program X) (g : ℕ → X) (h : History) (o : List ℕ) : Type ℓ where
+  pub cells : (c : ℕ) → run f (layout (kept-steps h) o) (start g) .holds c ≡ run f (all-steps h) (start g) .holds c
+  pub sights : (j : ℕ) → j ∈ kept h → run f (layout (kept-steps h) o) (start g) .seen j ≡ run f (all-steps h) (start g) .seen j
+
+pub one-at-a-time {ℓ} : (h : History) → Turns h → (o : List ℕ) → Accepted h o → (X : Type ℓ) (f : Program X) (g : ℕ → X) → AsTheLog X f g h o
+one-at-a-time h t o a X f g = record { cells = same-cells h t a f g; sights = same-sights h t a f g }
+
+-- ---- the lowest-first order
+
+-- the order computed is the lowest-first one, and nothing else has that property
+pub order-is : (h : History) → Turns h → (o : List ℕ) → (order-of h ≡ some o) ↔ LowestFirst (Precedes (kept-steps h)) (kept h) o
+order-is h t o = (order-lowest h t, lowest-order h t)
+
+pub order-only : (h : History) (o o′ : List ℕ) → LowestFirst (Precedes (kept-steps h)) (kept h) o → LowestFirst (Precedes (kept-steps h)) (kept h) o′ → o ≡ o′
+order-only h o o′ = lowest-only
+
+-- it is accepted; it exists exactly when there is no circle, and then some accepted order exists; where there is none, a circle is shown
+pub order-good : (h : History) → Turns h → (o : List ℕ) → order-of h ≡ some o → Accepted h o
+order-good h t o = order-accepted h t
+
+pub order-there : (h : History) → Turns h → (Circular (kept-steps h) → ⊥) ↔ ((o : List ℕ) × (order-of h ≡ some o))
+order-there h t = (order-exists h t, λ r. accepted-no-circle h t (order-accepted h t (r .1)))
+
+pub order-if-any : (h : History) → Turns h → (o : List ℕ) → Accepted h o → (p : List ℕ) × (order-of h ≡ some p)
+order-if-any h t o a = order-exists h t (accepted-no-circle h t a)
+
+pub order-stuck : (h : History) → Turns h → order-of h ≡ none → Circular (kept-steps h)
+order-stuck h t = no-order-circle h t
+
+-- where it first differs from another accepted order, its job is the lower
+pub order-first : (h : History) → Turns h → (p q r : List ℕ) (i j : ℕ) → order-of h ≡ some (p ++ i ∷ q) → Accepted h (p ++ j ∷ r) → (i ≡ j → ⊥) → i < j
+order-first h t p q r i j = order-least h t p q r
+
+-- ---- granted histories
+
+-- every history of granted requests is in turn, has no circle, and so has an order
+pub granted-order : (first : ℕ) (rs : List Request) → (o : List ℕ) × (order-of (history-of first rs) ≡ some o) × Accepted (history-of first rs) o
+granted-order first rs =
+    let s = granted-sound first rs in
+    let r = order-exists (history-of first rs) (s .turns) (s .no-circle) in
+    (r .0, r .1, order-accepted (history-of first rs) (s .turns) (r .1))
+
+-- ---- the table of cases
+
+-- every reply of the case, its order, and, where it says so, that there is no other
+pub record Tried (c : Case) : Type 0 where
+  pub answers : replies (c .first) (requests-of c) ≡ replies-of c
+  pub order : order-of (history-of (c .first) (requests-of c)) ≡ c .order
+  pub only-one : T (c .only-one) → (o : List ℕ) → Accepted (history-of (c .first) (requests-of c)) o → c .order ≡ some o
+
+only-order : (h : History) → Turns h → (a : Option (List ℕ)) → T (is-only h a) → (o : List ℕ) → Accepted h o → a ≡ some o
+only-order h t none x o a = absurd x
+only-order h t (some p) x o a = ap some (sym (forced-only (precedes-test (kept-steps h)) x (accepted-forward h t a)))
+
+pub tried : (c : Case) → c ∈ p-table → Tried c
+unfolding computed
+tried c m =
+    let e : computed c ≡ expected c = p-cases c m in
+    let h = history-of (c .first) (requests-of c) in
+    record {
+      answers = ap (λ (x : Outcome). x .by-history) e;
+      order = ap (λ (x : Outcome). x .order) e;
+      only-one = λ y o a. sym (ap (λ (x : Outcome). x .order) e)
+          ∙ only-order h (granted-sound (c .first) (requests-of c) .turns) (order-of h) (subst T (sym (ap (λ (x : Outcome). x .only-one) e)) y) o a;
+    }

@@ -1,0 +1,136 @@
+-- The reply of the full history to a request: the codes 0 to 7 with the order in which they are tested, for any first number.
+--
+-- The codes ask five things of whoever answers (`Facts`): is the job open, has it a granted write, how many jobs are open, which
+-- number is next, would the step close a circle. The order of the tests stands here once, over any facts; the full history, the
+-- bounded memory and the code differ only in where their facts come from.
+-- Assumes nothing.
+use mathlib.Core.Bool.{Bool, true, not, cond}
+use mathlib.Core.List.{List, [], _∷_, _++_}
+use Prim.Native.Nat.{ℕ, _+_}
+use lib.Dec.{leb, eqb}
+use lib.ListN.{length}
+use Rattle.history.specs.Events.{Kind, read, write, Event, opens, steps, ends, abandons, History, has, opened, open-now, wrote, kept-steps, has-circle}
+
+-- ---- requests and replies
+
+-- four raw fields
+pub record Request : Type 0 where
+  pub kind : ℕ
+  pub byte1 : ℕ
+  pub cell : ℕ
+  pub job : ℕ
+
+pub record Reply : Type 0 where
+  pub code : ℕ
+  pub job : ℕ
+
+-- cells 0 to 255; at most 32 jobs open; job numbers 0 to 4,294,967,295
+abbrev pub cells : ℕ
+cells = 256
+
+abbrev pub most-open : ℕ
+most-open = 32
+
+abbrev pub numbers : ℕ
+numbers = 4294967296
+
+-- ---- what a request asks for
+
+pub data Want : Type 0 where
+  an-open : Want
+  a-step : Kind → Want
+  an-end : Want
+  an-abandon : Want
+  nothing : Want
+
+-- the kinds 1 to 5
+unfoldable pub want : ℕ → Want
+want n = cond (eqb n 1) an-open (cond (eqb n 2) (a-step read) (cond (eqb n 3) (a-step write) (cond (eqb n 4) an-end (cond (eqb n 5) an-abandon nothing))))
+
+-- ---- the codes
+
+-- what the codes ask
+pub record Facts : Type 0 where
+  pub is-open : ℕ → Bool
+  pub has-written : ℕ → Bool
+  pub count : ℕ
+  pub next : ℕ
+  pub closes : Kind → ℕ → ℕ → Bool
+
+-- a test and the code that is given where it holds
+pub record Test : Type 0 where
+  pub holds : Bool
+  pub code : ℕ
+
+infix 3 _gives_
+abbrev pub _gives_ : Bool → ℕ → Test
+b gives n = record { holds = b; code = n }
+
+-- the first that holds is given, and 0 where none does
+abbrev pub first-of : List Test → ℕ
+first-of [] = 0
+first-of (t ∷ ts) = cond (t .holds) (t .code) (first-of ts)
+
+-- 2, 3, 7 for a step; 3 for an end; 3, 4 for an abandon; 6, 5 for an open
+unfoldable pub tests : Facts → Want → ℕ → ℕ → List Test
+tests f an-open j c = (leb numbers (f .next) gives 6) ∷ (leb most-open (f .count) gives 5) ∷ []
+tests f (a-step k) j c = (leb cells c gives 2) ∷ (not (f .is-open j) gives 3) ∷ (f .closes k j c gives 7) ∷ []
+tests f an-end j c = (not (f .is-open j) gives 3) ∷ []
+tests f an-abandon j c = (not (f .is-open j) gives 3) ∷ (f .has-written j gives 4) ∷ []
+tests f nothing j c = (true gives 1) ∷ []
+
+-- 1 before all: a byte 1 that is not zero, or a kind that is not 1 to 5
+unfoldable pub code-of : Facts → Request → ℕ
+code-of f r = first-of ((not (eqb (r .byte1) 0) gives 1) ∷ tests f (want (r .kind)) (r .job) (r .cell))
+
+-- ---- the answer
+
+-- the event that a granted request is
+unfoldable pub event-of : ℕ → Want → ℕ → ℕ → List Event
+event-of n an-open j c = opens n ∷ []
+event-of n (a-step k) j c = steps k j c ∷ []
+event-of n an-end j c = ends j ∷ []
+event-of n an-abandon j c = abandons j ∷ []
+event-of n nothing j c = []
+
+-- a granted open answers the new number, any other grant the job named
+unfoldable pub job-of : ℕ → Want → ℕ → ℕ
+job-of n an-open j = n
+job-of n (a-step k) j = j
+job-of n an-end j = j
+job-of n an-abandon j = j
+job-of n nothing j = j
+
+-- a refusal answers job 0, and the history stays
+unfoldable pub reply-of : Facts → Request → Reply
+reply-of f r = record { code = code-of f r; job = cond (eqb (code-of f r) 0) (job-of (f .next) (want (r .kind)) (r .job)) 0 }
+
+unfoldable pub granted-of : Facts → Request → List Event
+granted-of f r = cond (eqb (code-of f r) 0) (event-of (f .next) (want (r .kind)) (r .job) (r .cell)) []
+
+-- ---- the full history's
+
+-- numbers are issued one after the other from the first; a step would close a circle when with it the kept history has one
+unfoldable pub full : ℕ → History → Facts
+full first h = record { is-open = has (open-now h); has-written = wrote h; count = length (open-now h); next = first + length (opened h); closes = λ k j c. has-circle (kept-steps (h ++ steps k j c ∷ [])) }
+
+unfoldable pub reply : ℕ → History → Request → Reply
+reply first h r = reply-of (full first h) r
+
+unfoldable pub after : ℕ → History → Request → History
+after first h r = h ++ granted-of (full first h) r
+
+-- from a first number and a list of requests: the replies, one by one, and the history that they leave
+abbrev pub replies-from : ℕ → History → List Request → List Reply
+replies-from first h [] = []
+replies-from first h (r ∷ rs) = reply first h r ∷ replies-from first (after first h r) rs
+
+abbrev pub history-from : ℕ → History → List Request → History
+history-from first h [] = h
+history-from first h (r ∷ rs) = history-from first (after first h r) rs
+
+abbrev pub replies : ℕ → List Request → List Reply
+replies first rs = replies-from first [] rs
+
+abbrev pub history-of : ℕ → List Request → History
+history-of first rs = history-from first [] rs
