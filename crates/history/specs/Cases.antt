@@ -305,9 +305,26 @@ reads-alone =
       only-one = false;
     }
 
+-- two faults in one request: byte 1 before the cell, the cell before the job, a job that is not open before its write
+abbrev pub two-faults : Case
+two-faults =
+    record {
+      first = 1;
+      exchanges =
+          record { kind = 2; byte1 = 1; cell = 256; job = 9 } gets refused 1
+          ∷ record { kind = 0; byte1 = 0; cell = 256; job = 9 } gets refused 1
+          ∷ record { kind = 255; byte1 = 0; cell = 0; job = 0 } gets refused 1
+          ∷ reads 9 256 gets refused 2 ∷ reads 9 255 gets refused 3 ∷ end 9 gets refused 3
+          ∷ open-one gets granted 1 ∷ writes 1 255 gets granted 1 ∷ end 1 gets granted 1
+          ∷ abandon 1 gets refused 3 ∷ [];
+      order = some (1 ∷ []);
+      laid-out = 1 ∷ [];
+      only-one = true;
+    }
+
 abbrev pub own-table : List Case
-own-table = past-of-ended ∷ leads-of-ended ∷ chain-abandoned ∷ reads-alone ∷ []
+own-table = past-of-ended ∷ leads-of-ended ∷ chain-abandoned ∷ reads-alone ∷ two-faults ∷ []
 
 pub own-cases : (c : Case) → c ∈ own-table → computed c ≡ expected c
 unfolding computed
-own-cases c = rows computed expected (refl, (refl, (refl, (refl, tt))))
+own-cases c = rows computed expected (refl, (refl, (refl, (refl, (refl, tt)))))

@@ -77,7 +77,7 @@ pub record Beside (first : ℕ) (h : History) (m : Memory) : Type 0 where
   pub tells : Tells h m
   pub next : m .next ≡ first + length (opened h)
 
-below-has : (c n : ℕ) → c < n → c ∈ below n
+pub below-has : (c n : ℕ) → c < n → c ∈ below n
 below-has c zero h = absurd (not-suc-le-zero h)
 below-has c (suc n) h = ⊎-elim (λ e. List·Memᴰ·head e) (λ no. later (below-has c n (omega arith))) (answer (eq-test c n))
 

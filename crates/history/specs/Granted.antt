@@ -12,7 +12,7 @@ use lib.ListN.{length, length-append}
 use Rattle.graph.specs.Decide.{eq-test, le-test, answer, true-is}
 use Rattle.graph.specs.Lists.{_∈_, Before, before-nil, before-from-only}
 use Rattle.graph.specs.Walk.{Via, one, step, Any, carry}
-use Rattle.history.specs.Events.{Event, opens, steps, ends, abandons, History, opened, open-now, Step, all-steps, kept-steps, Precedes, Circular}
+use Rattle.history.specs.Events.{Event, opens, steps, ends, abandons, History, opened-by, opened, open-now, Step, all-steps, kept-steps, Precedes, Circular}
 use Rattle.history.specs.Replies.{cells, numbers, Request, Want, an-open, a-step, an-end, an-abandon, nothing, want, Facts, first-of, tests, code-of, event-of, granted-of, full, after, history-from, history-of}
 use Rattle.history.specs.Turns.{InTurn, Turns}
 use Rattle.history.specs.EventLaws.{precedes-in}
@@ -32,11 +32,11 @@ Proper f (ends j) = T (f .is-open j)
 Proper f (abandons j) = T (f .is-open j) × (T (f .has-written j) → ⊥)
 
 -- a code that is 0 was tested and did not hold, and no later one did
-passed : (b : Bool) (n x : ℕ) → cond b (suc n) x ≡ 0 → (T b → ⊥) × (x ≡ 0)
+pub passed : (b : Bool) (n x : ℕ) → cond b (suc n) x ≡ 0 → (T b → ⊥) × (x ≡ 0)
 passed true n x e = absurd (let z : suc n ≡ 0 = e in omega arith)
 passed false n x e = (λ t. t, e)
 
-undenied : (b : Bool) → (T (not b) → ⊥) → T b
+pub undenied : (b : Bool) → (T (not b) → ⊥) → T b
 undenied true h = tt
 undenied false h = h tt
 
@@ -91,6 +91,16 @@ module _ (first : ℕ) (h : History) (issued : Issued first h) where
   issued-next (ends i) p j m = subst (λ (l : List ℕ). j ∈ l → j < first + length l) (sym (stays (opened-grows h (ends i)))) (issued j) m
   issued-next (abandons i) p j m = subst (λ (l : List ℕ). j ∈ l → j < first + length l) (sym (stays (opened-grows h (abandons i)))) (issued j) m
 
+-- a number that is issued is one of the job numbers
+range-next : (first : ℕ) (h : History) → ((j : ℕ) → j ∈ opened h → j < numbers) → (e : Event) → Proper (full first h) e → (j : ℕ) → j ∈ opened (h ++ e ∷ []) → j < numbers
+range-next first h small e p j m = ⊎-elim (small j) (fresh e p) (which-in (opened-grows h e) m)
+  where
+    fresh : (e : Event) → Proper (full first h) e → j ∈ opened-by e → j < numbers
+    fresh (opens n) p m = let q : j ≡ n = List·Memᴰ·eq-of-singleton m in let r = p .0 in let b = p .1 in omega arith
+    fresh (steps k i c) p m = absurd (List·Memᴰ·not-nil m)
+    fresh (ends i) p m = absurd (List·Memᴰ·not-nil m)
+    fresh (abandons i) p m = absurd (List·Memᴰ·not-nil m)
+
 no-circle-next : (first : ℕ) (h : History) → (Circular (kept-steps h) → ⊥) → (e : Event) → Proper (full first h) e → Circular (kept-steps (h ++ e ∷ [])) → ⊥
 unfolding full
 no-circle-next first h none (opens n) p z = none (subst Circular (kept-opens h n) z)
@@ -104,11 +114,12 @@ no-circle-next first h none (abandons j) p z =
 pub record Sound (first : ℕ) (h : History) : Type 0 where
   pub turns : Turns h
   pub issued : Issued first h
+  pub in-range : (j : ℕ) → j ∈ opened h → j < numbers
   pub no-circle : Circular (kept-steps h) → ⊥
 
 pub sound-start : (first : ℕ) → Sound first []
 unfolding opened
-sound-start first = record { turns = tt; issued = λ j m. absurd (List·Memᴰ·not-nil m); no-circle = λ z. nothing-precedes (z .1) }
+sound-start first = record { turns = tt; issued = λ j m. absurd (List·Memᴰ·not-nil m); in-range = λ j m. absurd (List·Memᴰ·not-nil m); no-circle = λ z. nothing-precedes (z .1) }
   where
     empty : kept-steps [] ≡ []
     empty = unfold kept-steps all-steps in refl
@@ -125,6 +136,7 @@ sound-next {first} {h} e s p =
     record {
       turns = turns-next [] h e (s .turns) (proper-in-turn first h (s .issued) e p);
       issued = issued-next first h (s .issued) e p;
+      in-range = range-next first h (s .in-range) e p;
       no-circle = no-circle-next first h (s .no-circle) e p;
     }
 

@@ -18,7 +18,7 @@ use Rattle.history.specs.Turns.{InTurn, InTurnAfter, Turns}
 
 -- ---- one event more
 
-gather-append : {X : Type 0} (f : Event → List X) (h k : History) → gather f (h ++ k) ≡ gather f h ++ gather f k
+pub gather-append : {X : Type 0} (f : Event → List X) (h k : History) → gather f (h ++ k) ≡ gather f h ++ gather f k
 gather-append f [] k = refl
 gather-append f (e ∷ h) k = ap (λ (l : List _). f e ++ l) (gather-append f h k) ∙ sym (append-assoc (f e) (gather f h) (gather f k))
 

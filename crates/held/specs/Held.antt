@@ -1,0 +1,213 @@
+-- What the 32 slots hold, on lists of numbers, and the rule over it, total for any content and exact to the last bit.
+--
+-- A state is the next number, a mask of the free slots, and for each slot a row: a job number, a mask of the slots it leads to, and sixteen
+-- words, four for each cell set: own reads, own writes, past reads, past writes. The facts that the codes ask are read off it (`facts`), and a grant
+-- moves it (`after`). For states that no requests give this is how document 01 is read: the lowest open slot that holds the number is meant; what
+-- is held is taken as it is; new leads are added first, and then any chain of leads over open slots from the asking slot back to it gives 7;
+-- rows and marks of slots that are not open count for nothing.
+-- Assumes nothing.
+use mathlib.Core.Bool.{Bool, true, false, not, _&&_, _||_, cond}
+use mathlib.Core.Option.{Option, none, some}
+use mathlib.Core.List.{List, [], _∷_}
+use Prim.Native.Nat.{ℕ, suc, _+_, _-_, _*_, _/_, _%_, _^_}
+use lib.Bits.{bitOr, bitAnd}
+use lib.Dec.{leb, eqb}
+use lib.ListN.{length, getD}
+use Rattle.graph.specs.Decide.{some-of}
+use Rattle.graph.specs.Lists.{only}
+use Rattle.graph.specs.Reach.{reach}
+use Rattle.marks.specs.Marks.{bit, mask-of, without, tab, upto}
+use Rattle.history.specs.Events.{Kind, read, write, kinds, alters}
+use Rattle.history.specs.Replies.{most-open, Request, Reply, Want, an-open, a-step, an-end, an-abandon, nothing, want, Facts, code-of, reply-of}
+use Rattle.history.specs.Memory.{meets}
+
+pub record Held : Type 0 where
+  pub next : ℕ
+  pub free : ℕ
+  pub numbers : List ℕ
+  pub leads : List ℕ
+  pub sets : List ℕ
+
+-- words of 64 marks; four to a cell set; sixteen to a row, own before past
+abbrev pub word-marks : ℕ
+word-marks = 64
+
+abbrev pub set-words : ℕ
+set-words = 4
+
+abbrev pub row-words : ℕ
+row-words = 16
+
+abbrev pub past-place : ℕ
+past-place = 8
+
+abbrev pub all-words : ℕ
+all-words = 512
+
+-- no job: every slot free, every row blank
+unfoldable pub fresh-held : ℕ → Held
+fresh-held first =
+    record {
+      next = first;
+      free = 2 ^ most-open - 1;
+      numbers = tab most-open (λ i. 0);
+      leads = tab most-open (λ i. 0);
+      sets = tab all-words (λ w. 0);
+    }
+
+-- ---- reading a state
+
+unfoldable pub number-at : Held → ℕ → ℕ
+number-at h i = getD (h .numbers) i 0
+
+unfoldable pub leads-at : Held → ℕ → ℕ
+leads-at h i = getD (h .leads) i 0
+
+-- word o of row i
+unfoldable pub word-at : Held → ℕ → ℕ → ℕ
+word-at h i o = getD (h .sets) (i * row-words + o) 0
+
+unfoldable pub open-at : Held → ℕ → Bool
+open-at h i = not (bit (h .free) i)
+
+-- the open slots, the lowest first
+unfoldable pub open-slots : Held → List ℕ
+open-slots h = only (open-at h) (upto most-open)
+
+-- where the set of a kind stands, among own and among past
+abbrev pub set-place : Kind → ℕ
+set-place read = 0
+set-place write = set-words
+
+-- is the cell in the set that begins at word o of row i?
+unfoldable pub cell-at : Held → ℕ → ℕ → ℕ → Bool
+cell-at h i o c = bit (word-at h i (o + c / word-marks)) (c % word-marks)
+
+abbrev pub own-at : Held → ℕ → Kind → ℕ → Bool
+own-at h i k c = cell-at h i (set-place k) c
+
+abbrev pub past-at : Held → ℕ → Kind → ℕ → Bool
+past-at h i k c = cell-at h i (past-place + set-place k) c
+
+-- ---- the facts
+
+abbrev pub first-in : List ℕ → Option ℕ
+first-in [] = none
+first-in (i ∷ l) = some i
+
+abbrev pub is-some : Option ℕ → Bool
+is-some none = false
+is-some (some i) = true
+
+-- said of the slot, and false where there is none
+abbrev pub at-slot : Option ℕ → (ℕ → Bool) → Bool
+at-slot none f = false
+at-slot (some s) f = f s
+
+-- the lowest open slot that holds the number
+unfoldable pub slot-of : Held → ℕ → Option ℕ
+slot-of h j = first-in (only (λ i. eqb (number-at h i) j) (open-slots h))
+
+-- slot i comes to lead to slot s at its step: another slot's own clashes with it, or any slot's past does, s's too
+unfoldable pub touched : Held → Kind → ℕ → ℕ → ℕ → Bool
+touched h k s c i = (not (eqb i s) && meets (own-at h i) k c) || meets (past-at h i) k c
+
+-- a chain of held and new leads, over open slots, from s back to s
+unfoldable pub chain-back : Held → Kind → ℕ → ℕ → Bool
+chain-back h k s c = reach (λ i x. bit (leads-at h i) x || (eqb x s && touched h k s c i)) (open-slots h) s s
+
+-- a word that is not 0 in a set that bars abandoning
+unfoldable pub altered : Held → ℕ → Bool
+altered h s = some-of (λ k. alters k && some-of (λ w. not (eqb (word-at h s (set-place k + w)) 0)) (upto set-words)) kinds
+
+unfoldable pub facts : Held → Facts
+facts h =
+    record {
+      is-open = λ j. is-some (slot-of h j);
+      has-written = λ j. at-slot (slot-of h j) (altered h);
+      count = length (open-slots h);
+      next = h .next;
+      closes = λ k j c. at-slot (slot-of h j) (λ s. chain-back h k s c);
+    }
+
+-- ---- moving a state: what a grant leaves, number by number
+
+-- the new job goes into slot s: its row is blank but for the number, and no row leads to it
+unfoldable pub opened-at : Held → ℕ → Held
+opened-at h s =
+    record {
+      next = suc (h .next);
+      free = without (h .free) s;
+      numbers = tab most-open (λ i. cond (eqb i s) (h .next) (number-at h i));
+      leads = tab most-open (λ i. cond (eqb i s) 0 (without (leads-at h i) s));
+      sets = tab all-words (λ w. cond (eqb (w / row-words) s) 0 (getD (h .sets) w 0));
+    }
+
+-- a step of slot s: the open slots that it touches come to lead to s, and s's own has the cell
+unfoldable pub stepped-at : Held → Kind → ℕ → ℕ → Held
+stepped-at h k s c =
+    record {
+      next = h .next;
+      free = h .free;
+      numbers = h .numbers;
+      leads = tab most-open (λ i. cond (open-at h i && touched h k s c i) (bitOr (leads-at h i) (2 ^ s)) (leads-at h i));
+      sets =
+          tab all-words (λ w. cond (eqb w (s * row-words + (set-place k + c / word-marks))) (bitOr (getD (h .sets) w 0) (2 ^ (c % word-marks))) (getD (h .sets) w 0));
+    }
+
+-- slot s is left: its row is blank, no row leads to it, and the rows that pass t take over its own, its past and its leads to open slots
+unfoldable pub left-at : Held → (ℕ → Bool) → ℕ → Held
+left-at h t s =
+    record {
+      next = h .next;
+      free = bitOr (h .free) (2 ^ s);
+      numbers = tab most-open (λ i. cond (eqb i s) 0 (number-at h i));
+      leads =
+          tab most-open (λ i. cond (eqb i s) 0 (without (cond (t i) (bitOr (leads-at h i) (bitAnd (leads-at h s) (mask-of most-open (open-at h)))) (leads-at h i)) s));
+      sets =
+          tab all-words (λ w.
+          let i = w / row-words in
+          let o = w % row-words in
+          cond (eqb i s) 0
+          (cond (t i && leb past-place o) (bitOr (getD (h .sets) w 0) (bitOr (word-at h s (o - past-place)) (word-at h s o))) (getD (h .sets) w 0)));
+    }
+
+-- an end: every other open row that leads to s takes over
+unfoldable pub ended-at : Held → ℕ → Held
+ended-at h s = left-at h (λ i. open-at h i && (not (eqb i s) && bit (leads-at h i) s)) s
+
+-- an abandon: none does
+unfoldable pub abandoned-at : Held → ℕ → Held
+abandoned-at h s = left-at h (λ i. false) s
+
+-- ---- the rule
+
+abbrev pub with-slot : Option ℕ → (ℕ → Held) → Held → Held
+with-slot none f h = h
+with-slot (some s) f h = f s
+
+-- the lowest free slot
+unfoldable pub free-slot : Held → Option ℕ
+free-slot h = first-in (only (bit (h .free)) (upto most-open))
+
+unfoldable pub moved : Held → Want → ℕ → ℕ → Held
+moved h an-open j c = with-slot (free-slot h) (λ s. opened-at h s) h
+moved h (a-step k) j c = with-slot (slot-of h j) (λ s. stepped-at h k s c) h
+moved h an-end j c = with-slot (slot-of h j) (λ s. ended-at h s) h
+moved h an-abandon j c = with-slot (slot-of h j) (λ s. abandoned-at h s) h
+moved h nothing j c = h
+
+-- the answer to a request, and the next state: moved by a grant, and as it was after a refusal
+unfoldable pub answer-to : Held → Request → Reply
+answer-to h r = reply-of (facts h) r
+
+unfoldable pub after : Held → Request → Held
+after h r = cond (eqb (code-of (facts h) r) 0) (moved h (want (r .kind)) (r .job) (r .cell)) h
+
+abbrev pub answers : Held → List Request → List Reply
+answers h [] = []
+answers h (r ∷ rs) = answer-to h r ∷ answers (after h r) rs
+
+abbrev pub after-all : Held → List Request → Held
+after-all h [] = h
+after-all h (r ∷ rs) = after-all (after h r) rs

@@ -1,0 +1,4 @@
+pub mod Held
+pub mod HeldLaws
+pub mod Seen
+pub mod HeldExact

@@ -1,0 +1,4 @@
+pub mod Marks
+pub mod Words
+pub mod MarkLaws
+pub mod WordLaws
