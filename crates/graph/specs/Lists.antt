@@ -8,7 +8,7 @@ use mathlib.Core.Logic.{_⊎_, inl, inr, ⊎-elim}
 use mathlib.Core.Bool.{Bool, true, false, not, _&&_, cond}
 use mathlib.Core.List.{List, [], _∷_, _++_, List·Memᴰ, List·Memᴰ·head, List·Memᴰ·tail, List·Memᴰ·not-nil, List·Memᴰ·cases-cons, List·Memᴰ·append-cases, Memᴰ·append-left, Memᴰ·append-right, Memᴰ·cast}
 use Prim.Native.Nat.{ℕ, suc, _≤_, _<_, zero-le, suc-le-suc}
-use native.Mathlib.Nat.{le-step}
+use native.Mathlib.Nat.{le-trans, le-antisymm, le-step}
 use lib.Dec.{T, eqb}
 use lib.ListN.{length}
 use Rattle.graph.specs.Decide.{Decides, eq-test, not-test, is-true, is-false, some-of, some-test}
@@ -230,6 +230,16 @@ strike-shorter {j} (List·Memᴰ·tail {x = y} {xs = l} m) = go (not (eqb y j)) 
     go : (b : Bool) → length (only (λ i. not (eqb i j)) l) < length l → length (cond b (y ∷ only (λ i. not (eqb i j)) l) (only (λ i. not (eqb i j)) l)) < suc (length l)
     go true h = suc-le-suc h
     go false h = le-step h
+
+-- a list with every member once is no longer than one that has its members
+once-le : {l k : List ℕ} → Once l → ((x : ℕ) → x ∈ l → x ∈ k) → length l ≤ length k
+once-le none f = zero-le
+once-le {l = x ∷ l} {k = k} (more n o) f =
+    le-trans (suc-le-suc (once-le o (λ y m. strike-keeps (f y (later m)) (λ e. n (Memᴰ·cast (sym e) m))))) (strike-shorter (f x here))
+
+-- so lists with the same members, each once, are equally long
+pub once-length : {l k : List ℕ} → Once l → Once k → ((x : ℕ) → x ∈ l → x ∈ k) → ((x : ℕ) → x ∈ k → x ∈ l) → length l ≡ length k
+once-length o p f g = le-antisymm (once-le o f) (once-le p g)
 
 -- is it a member?
 pub mem-test : (j : ℕ) (l : List ℕ) → Decides (some-of (λ i. eqb i j) l) (j ∈ l)

@@ -4,21 +4,21 @@
 -- Tables (what its tables mean), Turns, Orders (layout, accepted), Run (what jobs read and leave), and of graph Walk, Lists and Listing.
 -- In order: circles; replies; the bounded memory; orders; what the auditor asked; the lowest-first order; granted histories; the table of cases.
 -- Assumes nothing.
-use mathlib.Core.Path.{_≡_, sym, ap, ap₂, _∙_, subst}
+use mathlib.Core.Path.{_≡_, sym, ap, _∙_, subst}
 use mathlib.Core.Logic.{_↔_, ⊎-elim}
-use mathlib.Core.Bool.{Bool, false, not, cond}
+use mathlib.Core.Bool.{Bool, not, cond}
 use mathlib.Core.Option.{Option, none, some}
 use mathlib.Core.List.{List, [], _∷_, _++_, append-nil}
-use Prim.Native.Nat.{ℕ, _+_, _≤_, _<_}
-use lib.Dec.{T, leb, eqb}
-use lib.ListN.{length}
+use Prim.Native.Nat.{ℕ, _<_}
+use lib.Dec.{T}
 use native.Mathlib.Omega.{arith}
 use Rattle.graph.specs.Decide.{Decides, answer, test-true, test-false, eq-test, le-test}
 use Rattle.graph.specs.Lists.{_∈_}
 use Rattle.graph.specs.Listing.{Forward, LowestFirst}
 use Rattle.graph.specs.ListingLaws.{lowest-only, forced-only}
-use Rattle.history.specs.Events.{Kind, steps, History, has, opened, open-now, kept, Step, all-steps, kept-steps, Precedes, Circular, has-circle}
-use Rattle.history.specs.Replies.{cells, most-open, numbers, Request, Reply, Want, an-open, a-step, want, tests, first-of, code-of, event-of, job-of, reply-of, granted-of, full, reply, after, replies, history-of}
+use Rattle.history.specs.Events.{Kind, steps, History, has, open-now, kept, Step, all-steps, kept-steps, Precedes, Circular, has-circle}
+use Rattle.history.specs.Replies.{cells, Request, Reply, an-open, a-step, want, tests, code-of, event-of, reply-of, granted-of, full, reply, after, replies, history-of}
+use Rattle.history.specs.ReplyLaws.{reply-for, OpenReply, open-reply}
 use Rattle.history.specs.Turns.{Turns}
 use Rattle.history.specs.Memory.{fresh, right, move-all, held-replies}
 use Rattle.history.specs.Tables.{Tells}
@@ -47,15 +47,6 @@ pub record StepReply (first : ℕ) (h : History) (k : Kind) (r : Request) : Type
   pub granted : (Circular (kept-steps (h ++ steps k (r .job) (r .cell) ∷ [])) → ⊥) ↔ (reply first h r .code ≡ 0)
   pub refused : Circular (kept-steps (h ++ steps k (r .job) (r .cell) ∷ [])) ↔ (reply first h r .code ≡ 7)
 
--- the reply to a well-formed request, by what it asks for
-reply-for : (first : ℕ) (h : History) (r : Request) (w : Want) → want (r .kind) ≡ w → r .byte1 ≡ 0
-    → reply first h r ≡ record { code = first-of (tests (full first h) w (r .job) (r .cell)); job = cond (eqb (first-of (tests (full first h) w (r .job) (r .cell))) 0) (job-of (full first h .next) w (r .job)) 0 }
-unfolding reply reply-of code-of
-reply-for first h r w asks zero-byte =
-    let said : ℕ → Want → Reply = λ n v. record { code = n; job = cond (eqb n 0) (job-of (full first h .next) v (r .job)) 0 } in
-    ap (λ (b : Bool). said (cond (not b) 1 (first-of (tests (full first h) (want (r .kind)) (r .job) (r .cell)))) (want (r .kind))) (test-true (eq-test (r .byte1) 0) zero-byte)
-    ∙ ap (λ (v : Want). said (first-of (tests (full first h) v (r .job) (r .cell))) v) asks
-
 step-code : (first : ℕ) (h : History) (k : Kind) (r : Request) → want (r .kind) ≡ a-step k → r .byte1 ≡ 0 → r .job ∈ open-now h → r .cell < cells
     → reply first h r .code ≡ cond (has-circle (kept-steps (h ++ steps k (r .job) (r .cell) ∷ []))) 7 0
 unfolding tests full
@@ -78,23 +69,8 @@ step-reply first h k r asks zero-byte is-open real =
     }
 
 -- an open: 6 once the last number is issued, else 5 while 32 jobs are open, else granted with the next number
-pub record OpenReply (first : ℕ) (h : History) (r : Request) : Type 0 where
-  pub spent : numbers ≤ first + length (opened h) → reply first h r ≡ record { code = 6; job = 0 }
-  pub crowded : first + length (opened h) < numbers → most-open ≤ length (open-now h) → reply first h r ≡ record { code = 5; job = 0 }
-  pub granted : first + length (opened h) < numbers → length (open-now h) < most-open → reply first h r ≡ record { code = 0; job = first + length (opened h) }
-
-pub open-reply : (first : ℕ) (h : History) (r : Request) → want (r .kind) ≡ an-open → r .byte1 ≡ 0 → OpenReply first h r
-unfolding tests full job-of
-open-reply first h r asks zero-byte =
-    let said : Bool → Bool → Reply = λ a b. let n : ℕ = cond a 6 (cond b 5 0) in record { code = n; job = cond (eqb n 0) (first + length (opened h)) 0 } in
-    let n = first + length (opened h) in
-    let by-tests : reply first h r ≡ said (leb numbers n) (leb most-open (length (open-now h))) = reply-for first h r an-open asks zero-byte in
-    let left : n < numbers → leb numbers n ≡ false = λ s. test-false (le-test numbers n) (λ q. omega arith) in
-    record {
-      spent = λ s. by-tests ∙ ap (λ (a : Bool). said a (leb most-open (length (open-now h)))) (test-true (le-test numbers n) s);
-      crowded = λ s c. by-tests ∙ ap₂ said (left s) (test-true (le-test most-open (length (open-now h))) c);
-      granted = λ s c. by-tests ∙ ap₂ said (left s) (test-false (le-test most-open (length (open-now h))) (λ q. omega arith));
-    }
+pub open-answered : (first : ℕ) (h : History) (r : Request) → want (r .kind) ≡ an-open → r .byte1 ≡ 0 → OpenReply first h r
+open-answered = open-reply
 
 -- a refusal changes nothing: the history stays
 pub refusal-stays : (first : ℕ) (h : History) (r : Request) → (reply first h r .code ≡ 0 → ⊥) → after first h r ≡ h

@@ -1,0 +1,97 @@
+-- The promises of demand 3, on bytes and lists. Each is proved in the file that its proof cites.
+--
+-- To be believed for them: Logs (records, faults, the reading of a log), Verdicts (the checker's verdict, the lister's answer), and what the
+-- promises of history need.
+-- Assumes nothing.
+use mathlib.Core.Path.{_≡_, refl, sym, ap, _∙_}
+use mathlib.Core.Logic.{_↔_}
+use mathlib.Core.List.{List, _∷_, _++_}
+use Prim.Native.Nat.{ℕ, _≤_}
+use native.Mathlib.Omega.{arith}
+use lib.ListN.{length}
+use Rattle.history.specs.Events.{History, opened, kept, Step, kept-steps}
+use Rattle.history.specs.Replies.{Request, history-of}
+use Rattle.history.specs.Turns.{Turns}
+use Rattle.history.specs.Orders.{layout, Accepted}
+use Rattle.history.specs.Run.{Program, last-write}
+use Rattle.history.specs.OrderLaws.{accepted-no-circle}
+use Rattle.history.specs.Promises.{AsTheLog, one-at-a-time, same-reads, same-ends, granted-order}
+use Rattle.verdicts.specs.Logs.{Reading, events, most-jobs, read-log, log-of}
+use Rattle.verdicts.specs.Verdicts.{check, Listed, listed, list-of, list-order}
+use Rattle.verdicts.specs.LogLaws.{read-turns, read-back, Sized, granted-read}
+use Rattle.verdicts.specs.VerdictLaws.{Checked, check-right, check-exactly, ListedAs, no-room, no-order, an-order, listed-right, Answered, list-right}
+
+-- ---- the checker
+
+-- the verdict on any bytes and any list, code by code and place by place
+pub verdict-means : (bytes order : List ℕ) → Checked bytes order (check bytes order)
+verdict-means = check-right
+
+-- accepted exactly when the log has no fault, and the order names each kept job once and its layout keeps every conflicting pair
+pub accepts-exactly : (bytes order : List ℕ) → (check bytes order .code ≡ 0) ↔ ((h : History) × (read-log bytes ≡ events h) × Accepted h order)
+accepts-exactly = check-exactly
+
+-- what an accepted order of a log is good for: each kept read follows the same last write, each cell ends with the same write, and whatever the
+-- jobs compute, one at a time in that order they read and leave the same
+pub record GoodFor (h : History) (order : List ℕ) : Type 1 where
+  pub reads : (r : Step) (p p′ q q′ : List Step) → kept-steps h ≡ p ++ r ∷ p′ → layout (kept-steps h) order ≡ q ++ r ∷ q′ → last-write (r .cell) p ≡ last-write (r .cell) q
+  pub ends : (c : ℕ) → last-write c (kept-steps h) ≡ last-write c (layout (kept-steps h) order)
+  pub whatever : (X : Type 0) (f : Program X) (g : ℕ → X) → AsTheLog X f g h order
+
+pub accepted-good : (bytes order : List ℕ) → check bytes order .code ≡ 0 → (h : History) × (read-log bytes ≡ events h) × GoodFor h order
+accepted-good bytes order z =
+    let r = check-exactly bytes order .0 z in
+    let t = read-turns bytes (r .0) (r .1) in
+    (r .0, r .1, record { reads = same-reads (r .0) t order (r .2); ends = same-ends (r .0) t order (r .2); whatever = one-at-a-time (r .0) t order (r .2) })
+
+-- ---- the lister
+
+-- the answer on any bytes and any lent list, code by code, with what then stands in the list
+pub answer-means : (bytes lent : List ℕ) → Answered bytes lent (list-order bytes lent)
+answer-means = list-right
+
+module _ (bytes lent : List ℕ) (h : History) (reads : read-log bytes ≡ events h) (room : length (kept h) ≤ length lent) where
+  of-log : list-order bytes lent ≡ listed h lent
+  unfolding list-order
+  of-log = ap (λ (g : Reading). list-of g lent) reads
+
+  -- where there is room: an order is given exactly when one is accepted, and 17 exactly when none is
+  pub gives-exactly : (list-order bytes lent .code ≡ 0) ↔ ((order : List ℕ) × Accepted h order)
+  gives-exactly = (λ z. yields (listed-right h (read-turns bytes h reads) lent) (ap (λ (a : Listed). a .code) (sym of-log) ∙ z), λ r. ap (λ (a : Listed). a .code) of-log ∙ given (r .1) (listed-right h (read-turns bytes h reads) lent))
+    where
+      yields : {a : Listed} → ListedAs h lent a → a .code ≡ 0 → (order : List ℕ) × Accepted h order
+      yields (no-room l) z = absurd (omega arith)
+      yields (no-order l c) z = absurd (let y : _≡_ {A = ℕ} 17 0 = z in omega arith)
+      yields (an-order {o = o} l e a n) z = (o, a)
+
+      given : {order : List ℕ} → Accepted h order → {a : Listed} → ListedAs h lent a → a .code ≡ 0
+      given a (no-room l) = absurd (omega arith)
+      given a (no-order l c) = absurd (accepted-no-circle h (read-turns bytes h reads) a c)
+      given a (an-order l e b n) = refl
+
+  pub seventeen-exactly : (list-order bytes lent .code ≡ 17) ↔ ((order : List ℕ) → Accepted h order → ⊥)
+  seventeen-exactly = (λ z order a. denied a (listed-right h (read-turns bytes h reads) lent) (ap (λ (a : Listed). a .code) (sym of-log) ∙ z), λ f. ap (λ (a : Listed). a .code) of-log ∙ none-left f (listed-right h (read-turns bytes h reads) lent))
+    where
+      denied : {order : List ℕ} → Accepted h order → {a : Listed} → ListedAs h lent a → a .code ≡ 17 → ⊥
+      denied a (no-room l) z = omega arith
+      denied a (no-order l c) z = accepted-no-circle h (read-turns bytes h reads) a c
+      denied a (an-order l e b n) z = let y : _≡_ {A = ℕ} 0 17 = z in omega arith
+
+      none-left : ((order : List ℕ) → Accepted h order → ⊥) → {a : Listed} → ListedAs h lent a → a .code ≡ 17
+      none-left f (no-room l) = absurd (omega arith)
+      none-left f (no-order l c) = refl
+      none-left f (an-order {o = o} l e b n) = absurd (f o b)
+
+-- ---- granted logs
+
+-- the log of what was granted, within the sizes, is read without a fault, and with room is never answered 17
+pub granted-listed : (first : ℕ) (rs : List Request) (lent : List ℕ) → length (history-of first rs) ≤ 4096 → length (opened (history-of first rs)) ≤ most-jobs
+    → length (kept (history-of first rs)) ≤ length lent → list-order (log-of (history-of first rs)) lent .code ≡ 0
+granted-listed first rs lent few few-jobs room =
+    let h = history-of first rs in
+    let r = granted-order first rs in
+    gives-exactly (log-of h) lent h (granted-read first rs few few-jobs) room .1 (r .0, r .2)
+
+-- a log read back: the bytes of a history in turn, within the sizes, are that history
+pub log-reads-back : (h : History) → Turns h → Sized h → read-log (log-of h) ≡ events h
+log-reads-back = read-back
