@@ -21,7 +21,7 @@ use Rattle.history.specs.Replies.{most-open, cells}
 use Rattle.history.specs.Memory.{same-kind}
 use Rattle.history.specs.MemoryLaws.{kind-test}
 use Rattle.held.specs.Held.{Held, fresh-held, word-marks, set-words, row-words, past-place, all-words, number-at, leads-at, word-at, open-at, open-slots, set-place, cell-at, own-at, past-at, touched, opened-at, stepped-at, left-at, ended-at, abandoned-at}
-use Rattle.marks.specs.MarkLaws.{getD-tab, upto-has, upto-from, bit-zero, bit-pow, bit-or, bit-and, bit-without, bit-mask}
+use Rattle.marks.specs.MarkLaws.{getD-tab, upto-has, upto-from, bit-zero, bit-pow, bit-or, bit-and, bit-without, bit-mask, tab-suc, tab-member}
 
 -- ---- tests joined, and marks of numbers that are chosen by a test
 
@@ -385,16 +385,13 @@ strike-once {j} (more {x = x} {l = l} f o) (List·Memᴰ·tail m) =
     ap (λ r. suc (length r)) (only-yes p x l (test-true (not-test (eq-test x j)) (λ e. f (Memᴰ·cast e m)))) ∙ ap suc (strike-once o m)
 
 -- a table of different numbers has each once
-tab-from : (n : ℕ) (f : ℕ → ℕ) {x : ℕ} → x ∈ tab n f → (k : ℕ) × (x ≡ f k)
-tab-from zero f m = absurd (List·Memᴰ·not-nil m)
-tab-from (suc n) f m = ⊎-elim (λ e. (zero, e)) (λ r. let q = tab-from n (λ k. f (suc k)) r in (suc (q .0), q .1)) (List·Memᴰ·cases-cons m)
-
 once-tab : (n : ℕ) (f : ℕ → ℕ) → ((a b : ℕ) → f a ≡ f b → a ≡ b) → Once (tab n f)
 once-tab zero f inj = none
 once-tab (suc n) f inj =
-    more
-    (λ m. let q = tab-from n (λ k. f (suc k)) m in let e = inj zero (suc (q .0)) (q .1) in omega arith)
-    (once-tab n (λ k. f (suc k)) (λ a b e. let q = inj (suc a) (suc b) e in omega arith))
+    subst Once (sym (tab-suc n f))
+    (more
+    (λ m. let q = tab-member n (λ k. f (suc k)) m in let e = inj zero (suc (q .0)) (q .2) in omega arith)
+    (once-tab n (λ k. f (suc k)) (λ a b e. let q = inj (suc a) (suc b) e in omega arith)))
 
 -- ---- the open slots
 

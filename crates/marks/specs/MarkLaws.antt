@@ -22,48 +22,66 @@ use lib.ListN.{length, getD}
 use lib.Pow.{pow-pos, pow-lt}
 use Rattle.graph.specs.Decide.{true-is, false-is, T-and, eq-test, and-test, not-test, own-test, same-test, test-true, test-false}
 use Rattle.graph.specs.Lists.{_∈_, here, later, only}
-use Rattle.marks.specs.Marks.{bit, mask-of, without, tab, upto}
+use Rattle.marks.specs.Marks.{bit, mask-of, without, tab-from, tab, upto}
 
 -- ---- lists made by a rule
 
--- how long a table is, and its elements
-pub length-tab {ℓ} : {X : Type ℓ} (n : ℕ) (f : ℕ → X) → length (tab n f) ≡ n
-length-tab zero f = refl
-length-tab (suc n) f = ap suc (length-tab n (λ k. f (suc k)))
+-- a table from a place on: how long it is, its elements, and the same table from the place before, of the rule shifted
+module _ {ℓ} {X : Type ℓ} where
+  length-from : (i n : ℕ) (f : ℕ → X) → length (tab-from i n f) ≡ n
+  length-from i zero f = refl
+  length-from i (suc n) f = ap suc (length-from (suc i) n f)
 
-pub getD-tab {ℓ} : {X : Type ℓ} (n : ℕ) (f : ℕ → X) (i : ℕ) (d : X) → i < n → getD (tab n f) i d ≡ f i
-getD-tab zero f i d h = absurd (not-suc-le-zero h)
-getD-tab (suc n) f zero d h = refl
-getD-tab (suc n) f (suc i) d h = getD-tab n (λ k. f (suc k)) i d (le-of-suc-le-suc h)
+  getD-from : (i n : ℕ) (f : ℕ → X) (k : ℕ) (d : X) → k < n → getD (tab-from i n f) k d ≡ f (i + k)
+  getD-from i zero f k d h = absurd (not-suc-le-zero h)
+  getD-from i (suc n) f zero d h = ap f (omega arith)
+  getD-from i (suc n) f (suc k) d h = getD-from (suc i) n f k d (omega arith) ∙ ap f (omega arith)
 
--- a list is the table of its elements
-pub tab-getD {ℓ} : {X : Type ℓ} (l : List X) (d : X) → tab (length l) (λ i. getD l i d) ≡ l
-tab-getD [] d = refl
-tab-getD {X} (x ∷ l) d = ap (λ (r : List X). x ∷ r) (tab-getD l d)
+  same-from : (i n : ℕ) (f g : ℕ → X) → ((k : ℕ) → i ≤ k → k < i + n → f k ≡ g k) → tab-from i n f ≡ tab-from i n g
+  same-from i zero f g h = refl
+  same-from i (suc n) f g h = ap₂ (λ (x : X) (l : List X). x ∷ l) (h i (omega arith) (omega arith)) (same-from (suc i) n f g (λ k p q. h k (omega arith) (omega arith)))
 
--- tables of rules that agree below n are equal
-pub tab-same {ℓ} : {X : Type ℓ} (n : ℕ) (f g : ℕ → X) → ((i : ℕ) → i < n → f i ≡ g i) → tab n f ≡ tab n g
-tab-same zero f g h = refl
-tab-same {X} (suc n) f g h =
-    ap₂ (λ (x : X) (r : List X). x ∷ r) (h zero (zero-lt-suc n)) (tab-same n (λ k. f (suc k)) (λ k. g (suc k)) (λ i q. h (suc i) (suc-le-suc q)))
+  shift-from : (i n : ℕ) (f : ℕ → X) → tab-from (suc i) n f ≡ tab-from i n (λ k. f (suc k))
+  shift-from i zero f = refl
+  shift-from i (suc n) f = ap (λ (l : List X). f (suc i) ∷ l) (shift-from (suc i) n f)
+
+  -- how long a table is, and its elements
+  pub length-tab : (n : ℕ) (f : ℕ → X) → length (tab n f) ≡ n
+  length-tab n f = length-from 0 n f
+
+  pub getD-tab : (n : ℕ) (f : ℕ → X) (i : ℕ) (d : X) → i < n → getD (tab n f) i d ≡ f i
+  getD-tab n f i d h = getD-from 0 n f i d h ∙ ap f (omega arith)
+
+  -- the first element, and the table of the rest
+  pub tab-suc : (n : ℕ) (f : ℕ → X) → tab (suc n) f ≡ f zero ∷ tab n (λ k. f (suc k))
+  tab-suc n f = ap (λ (l : List X). f zero ∷ l) (shift-from 0 n f)
+
+  -- a list is the table of its elements
+  pub tab-getD : (l : List X) (d : X) → tab (length l) (λ i. getD l i d) ≡ l
+  tab-getD [] d = refl
+  tab-getD (x ∷ l) d = tab-suc (length l) (λ i. getD (x ∷ l) i d) ∙ ap (λ (r : List X). x ∷ r) (tab-getD l d)
+
+  -- tables of rules that agree below n are equal
+  pub tab-same : (n : ℕ) (f g : ℕ → X) → ((i : ℕ) → i < n → f i ≡ g i) → tab n f ≡ tab n g
+  tab-same n f g h = same-from 0 n f g (λ k p q. h k (omega arith))
 
 -- the members of a table are the values of its rule
 pub tab-has : {X : Type 0} (n : ℕ) (f : ℕ → X) (i : ℕ) → i < n → f i ∈ tab n f
 tab-has zero f i h = absurd (not-suc-le-zero h)
-tab-has (suc n) f zero h = here
-tab-has (suc n) f (suc i) h = later (tab-has n (λ k. f (suc k)) i (le-of-suc-le-suc h))
+tab-has {X} (suc n) f zero h = here
+tab-has {X} (suc n) f (suc i) h = subst (λ (l : List X). f (suc i) ∈ l) (sym (tab-suc n f)) (later (tab-has n (λ k. f (suc k)) i (le-of-suc-le-suc h)))
 
-pub tab-from : {X : Type 0} {x : X} (n : ℕ) (f : ℕ → X) → x ∈ tab n f → (i : ℕ) × (i < n) × (x ≡ f i)
-tab-from zero f m = absurd (List·Memᴰ·not-nil m)
-tab-from {x} (suc n) f m =
-    ⊎-elim (λ e. (zero, zero-lt-suc n, e)) (λ r. let s = tab-from n (λ k. f (suc k)) r in (suc (s .0), suc-le-suc (s .1), s .2)) (List·Memᴰ·cases-cons m)
+pub tab-member : {X : Type 0} {x : X} (n : ℕ) (f : ℕ → X) → x ∈ tab n f → (i : ℕ) × (i < n) × (x ≡ f i)
+tab-member zero f m = absurd (List·Memᴰ·not-nil m)
+tab-member {X} {x} (suc n) f m =
+    ⊎-elim (λ e. (zero, zero-lt-suc n, e)) (λ r. let s = tab-member n (λ k. f (suc k)) r in (suc (s .0), suc-le-suc (s .1), s .2)) (List·Memᴰ·cases-cons (subst (λ (l : List X). x ∈ l) (tab-suc n f) m))
 
 -- the members of `upto n` are the numbers below n
 pub upto-has : {i n : ℕ} → i < n → i ∈ upto n
 upto-has {i} {n} h = tab-has n (λ k. k) i h
 
 pub upto-from : {i : ℕ} (n : ℕ) → i ∈ upto n → i < n
-upto-from n m = let r = tab-from n (λ k. k) m in subst (λ (k : ℕ). k < n) (sym (r .2)) (r .1)
+upto-from n m = let r = tab-member n (λ k. k) m in subst (λ (k : ℕ). k < n) (sym (r .2)) (r .1)
 
 -- ---- a number as its half and its lowest mark
 
@@ -376,10 +394,12 @@ only-count p x l = go (p x)
 pub only-tab {ℓ κ} : {X : Type ℓ} {Y : Type κ} (n : ℕ) (p : X → Bool) (f : ℕ → X) (q : Y → Bool) (g : ℕ → Y)
     → ((i : ℕ) → i < n → p (f i) ≡ q (g i)) → length (only p (tab n f)) ≡ length (only q (tab n g))
 only-tab zero p f q g h = refl
-only-tab (suc n) p f q g h =
-    only-count p (f 0) (tab n (λ k. f (suc k)))
+only-tab {X = X} {Y = Y} (suc n) p f q g h =
+    ap (λ (l : List X). length (only p l)) (tab-suc n f)
+    ∙ only-count p (f 0) (tab n (λ k. f (suc k)))
     ∙ ap₂ (λ (b : Bool) (x : ℕ). digit b + x) (h zero (zero-lt-suc n)) (only-tab n p (λ k. f (suc k)) q (λ k. g (suc k)) (λ i r. h (suc i) (suc-le-suc r)))
     ∙ sym (only-count q (g 0) (tab n (λ k. g (suc k))))
+    ∙ ap (λ (l : List Y). length (only q l)) (sym (tab-suc n g))
 
 -- the count of ones is how many marks there are
 pub ones-count : (w n : ℕ) → n < 2 ^ w → ones n ≡ length (only (bit n) (upto w))
@@ -389,6 +409,7 @@ ones-count (suc w) n h =
     ones-step n
     ∙ ap₂ (λ (x y : ℕ). x + y) (low-digit n) (ones-count w (n / 2) (half-lt w h) ∙ only-tab w (bit (n / 2)) (λ k. k) (bit n) suc (λ i q. sym (bit-suc n i)))
     ∙ sym (only-count (bit n) 0 (tab w suc))
+    ∙ ap (λ (l : List ℕ). length (only (bit n) l)) (sym (tab-suc w (λ k. k)))
 
 -- ---- as the code has it
 

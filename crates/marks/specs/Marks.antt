@@ -18,9 +18,12 @@ mask-of (suc w) f = mask-of w f + cond (f w) (2 ^ w) 0
 unfoldable pub without : ℕ → ℕ → ℕ
 without n s = cond (bit n s) (n - 2 ^ s) n
 
+abbrev pub tab-from {ℓ} : {X : Type ℓ} → ℕ → ℕ → (ℕ → X) → List X
+tab-from i zero f = []
+tab-from i (suc n) f = f i ∷ tab-from (suc i) n f
+
 abbrev pub tab {ℓ} : {X : Type ℓ} → ℕ → (ℕ → X) → List X
-tab zero f = []
-tab (suc n) f = f zero ∷ tab n (λ k. f (suc k))
+tab n f = tab-from 0 n f
 
 abbrev pub upto : ℕ → List ℕ
 upto n = tab n (λ k. k)

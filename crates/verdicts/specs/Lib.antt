@@ -1,5 +1,6 @@
 pub mod Logs
 pub mod Verdicts
+pub mod Cases
 pub mod LogLaws
 pub mod VerdictLaws
 pub mod Promises

@@ -1,0 +1,203 @@
+-- The slots whose sets clash with a step.
+--
+-- First what the code reads: the word of a row in which a clash would show, and the test of the cell's mark in it, which are what held says of the row
+-- (`clash-bit`, `past-bit`). Then a loop that visits the marks of a mask and gathers those that pass a test (`Gathering`). Last the two together
+-- (`touched-mask`).
+-- Assumes nothing.
+use mathlib.Core.Path.{_≡_, refl, sym, ap, ap₂, _∙_}
+use mathlib.Core.Bool.{Bool, true, false, not, _&&_, _||_, cond, and-true, and-false, or-true, or-false, or-comm, Bool·not-not}
+use mathlib.Core.List.{List}
+use Prim.Native.Nat.{ℕ, _+_, _-_, _*_, _/_, _%_, _^_, _<_}
+use native.Mathlib.Nat.{zero-add, lt-of-le-of-lt}
+use native.Mathlib.Omega.{arith}
+use lib.Bits.{bitOr, bitAnd, and-le-l, or-lt}
+use lib.Count.{trailingZeros}
+use lib.Dec.{lit<, eqb}
+use lib.ListN.{getD}
+use lib.Pow.{pow-lt}
+use Rattle.graph.specs.Decide.{by-test, eq-test, test-true, test-false}
+use Rattle.marks.specs.Marks.{bit, mask-of}
+use Rattle.marks.specs.MarkLaws.{bit-zero, bit-pow, bit-or, bit-and, bit-others, and-mark}
+use Rattle.history.specs.Events.{read, write}
+use Rattle.history.specs.Memory.{Footprint, meets}
+use Rattle.held.specs.Held.{own-at, past-at, cell-at, word-at, touched}
+use Rattle.arbiter.specs.Lent.{sets-only, kind-of}
+use Rattle.arbiter.proofs.MaskLaws.{one-shl, masked, Visiting, left-inside, visit-start, visit-turn, visit-end}
+
+-- ---- the words that the code reads
+
+-- what `clashing` and `clashing_past` give of row i
+abbrev pub clash-word : List ℕ → Bool → ℕ → ℕ → ℕ
+clash-word l w p i =
+    cond w
+    (bitOr (bitOr (getD l (i * 16 + (4 + p)) 0) (getD l (i * 16 + (12 + p)) 0)) (bitOr (getD l (i * 16 + p) 0) (getD l (i * 16 + (8 + p)) 0)))
+    (bitOr (getD l (i * 16 + (4 + p)) 0) (getD l (i * 16 + (12 + p)) 0))
+
+abbrev pub past-word : List ℕ → Bool → ℕ → ℕ → ℕ
+past-word l w p i = cond w (bitOr (getD l (i * 16 + (12 + p)) 0) (getD l (i * 16 + (8 + p)) 0)) (getD l (i * 16 + (12 + p)) 0)
+
+-- a write clashes with any footprint that has the cell, a read with one that has written it
+meets-is : (f : Footprint) (w : Bool) (c : ℕ) → meets f (kind-of w) c ≡ cond w (f read c || f write c) (f write c)
+unfolding meets
+meets-is f true c = ap₂ _||_ (and-true (f read c)) (or-false (f write c && true) ∙ and-true (f write c))
+meets-is f false c = ap₂ _||_ (and-false (f read c)) (or-false (f write c && true) ∙ and-true (f write c))
+
+module _ (l : List ℕ) (c i : ℕ) where
+  -- the cell's mark in word o of the row
+  mark-in : ℕ → Bool
+  mark-in o = bit (getD l (i * 16 + o) 0) (c % 64)
+
+  marks-in : (o o′ : ℕ) → bit (bitOr (getD l (i * 16 + o) 0) (getD l (i * 16 + o′) 0)) (c % 64) ≡ mark-in o || mark-in o′
+  unfolding mark-in
+  marks-in o o′ = bit-or (getD l (i * 16 + o) 0) (getD l (i * 16 + o′) 0) (c % 64)
+
+  own-is : (w : Bool) → meets (own-at (sets-only l) i) (kind-of w) c ≡ cond w (mark-in (c / 64) || mark-in (4 + c / 64)) (mark-in (4 + c / 64))
+  unfolding mark-in cell-at word-at
+  own-is w =
+      meets-is (own-at (sets-only l) i) w c
+      ∙ ap (λ (o : ℕ). cond w (mark-in o || mark-in (4 + c / 64)) (mark-in (4 + c / 64))) (zero-add (c / 64))
+
+  past-is : (w : Bool) → meets (past-at (sets-only l) i) (kind-of w) c ≡ cond w (mark-in (8 + c / 64) || mark-in (12 + c / 64)) (mark-in (12 + c / 64))
+  unfolding mark-in cell-at word-at
+  past-is w = meets-is (past-at (sets-only l) i) w c
+
+  past-bit : (w : Bool) → bit (past-word l w (c / 64) i) (c % 64) ≡ meets (past-at (sets-only l) i) (kind-of w) c
+  unfolding mark-in
+  past-bit w = go w ∙ sym (past-is w)
+    where
+      go : (w : Bool) → bit (past-word l w (c / 64) i) (c % 64) ≡ cond w (mark-in (8 + c / 64) || mark-in (12 + c / 64)) (mark-in (12 + c / 64))
+      go true = marks-in (12 + c / 64) (8 + c / 64) ∙ or-comm (mark-in (12 + c / 64)) (mark-in (8 + c / 64))
+      go false = refl
+
+  clash-bit : (w : Bool) → bit (clash-word l w (c / 64) i) (c % 64) ≡ meets (own-at (sets-only l) i) (kind-of w) c || meets (past-at (sets-only l) i) (kind-of w) c
+  clash-bit w = go w ∙ sym (ap₂ _||_ (own-is w) (past-is w))
+    where
+      own-or-past : Bool → Bool
+      own-or-past w =
+          cond w (mark-in (c / 64) || mark-in (4 + c / 64)) (mark-in (4 + c / 64)) || cond w (mark-in (8 + c / 64) || mark-in (12 + c / 64)) (mark-in (12 + c / 64))
+
+      by-kind : (a b d e : Bool) → (a || b) || (d || e) ≡ (d || a) || (e || b)
+      by-kind true b d e = ap (λ (x : Bool). x || (e || b)) (sym (or-true d))
+      by-kind false true d e = sym (ap (λ (x : Bool). (d || false) || x) (or-true e) ∙ or-true (d || false))
+      by-kind false false d e = sym (ap₂ _||_ (or-false d) (or-false e))
+
+      go : (w : Bool) → bit (clash-word l w (c / 64) i) (c % 64) ≡ own-or-past w
+      go true =
+          bit-or (bitOr (getD l (i * 16 + (4 + c / 64)) 0) (getD l (i * 16 + (12 + c / 64)) 0)) (bitOr (getD l (i * 16 + c / 64) 0) (getD l (i * 16 + (8 + c / 64)) 0)) (c % 64)
+          ∙ ap₂ _||_ (marks-in (4 + c / 64) (12 + c / 64)) (marks-in (c / 64) (8 + c / 64))
+          ∙ by-kind (mark-in (4 + c / 64)) (mark-in (12 + c / 64)) (mark-in (c / 64)) (mark-in (8 + c / 64))
+      go false = marks-in (4 + c / 64) (12 + c / 64)
+
+-- the test of a mark, as the code has it
+abbrev pub tests : ℕ → ℕ → Bool
+tests word mark = not (eqb (bitAnd word mark) 0)
+
+tests-bit : (n s : ℕ) → tests n (2 ^ s) ≡ bit n s
+tests-bit n s = ap not (and-mark n s) ∙ Bool·not-not (bit n s)
+
+-- of a word that a call gives
+pub tested : {b : Bool} {r n : ℕ} (m : ℕ) → r ≡ n → tests r m ≡ b → tests n m ≡ b
+tested m e t = ap (λ (x : ℕ). tests x m) (sym e) ∙ t
+
+abbrev pub clashes : List ℕ → Bool → ℕ → ℕ → ℕ → Bool
+clashes l w p mark i = tests (clash-word l w p i) mark
+
+-- ---- a loop that gathers marks
+
+-- n | (1 << i)
+more-fits : {n i : ℕ} → n < 2 ^ 32 → i < 32 → bitOr n (1 * 2 ^ i % 2 ^ 32) < 2 ^ 32
+more-fits {n} {i} h q = or-lt 32 n (1 * 2 ^ i % 2 ^ 32) h (omega arith)
+
+bit-more : (n i k : ℕ) → i < 32 → bit (bitOr n (1 * 2 ^ i % 2 ^ 32)) k ≡ bit n k || eqb k i
+bit-more n i k h =
+    ap (λ (x : ℕ). bit (bitOr n x) k) (one-shl h) ∙ bit-or n (2 ^ i) k ∙ ap (λ (b : Bool). bit n k || b) (bit-pow i k)
+
+-- The marks of `from` that pass f, in `found`, with those of `todo` left.
+pub record Gathering (from : ℕ) (f : ℕ → Bool) (todo found : ℕ) : Type 0 where
+  pub fits : found < 2 ^ 32
+  pub marks : Visiting 32 32 from (λ k. k) f (λ k. false) todo (bit found)
+
+module _ {from : ℕ} {f : ℕ → Bool} where
+  pub gather-start : from < 2 ^ 32 → Gathering from f from 0
+  gather-start h = record { fits = lit< tt; marks = visit-start h (λ k q. bit-zero k) }
+
+  -- the lowest mark of those that are left passes, or does not
+  pub gather-in : {todo found : ℕ} → Gathering from f todo found → (todo ≡ 0 → ⊥) → f (trailingZeros 32 todo) ≡ true
+      → Gathering from f (bitAnd todo (todo - 1)) (bitOr found (1 * 2 ^ trailingZeros 32 todo % 2 ^ 32))
+  gather-in {todo} {found} g ne t =
+      record {
+        fits = more-fits (g .fits) h;
+        marks =
+            visit-turn (g .marks) ne
+            (λ k q e o. bit-more found (trailingZeros 32 todo) k h ∙ ap (λ (b : Bool). bit found k || b) (test-true (eq-test k (trailingZeros 32 todo)) e) ∙ or-true (bit found k) ∙ sym (ap f e ∙ t))
+            (λ k q d. bit-more found (trailingZeros 32 todo) k h ∙ ap (λ (b : Bool). bit found k || b) (test-false (eq-test k (trailingZeros 32 todo)) d) ∙ or-false (bit found k));
+      }
+    where
+      h : trailingZeros 32 todo < 32
+      h = left-inside (g .marks .left) ne
+
+  pub gather-out : {todo found : ℕ} → Gathering from f todo found → (todo ≡ 0 → ⊥) → f (trailingZeros 32 todo) ≡ false
+      → Gathering from f (bitAnd todo (todo - 1)) found
+  gather-out g ne t = record { fits = g .fits; marks = visit-turn (g .marks) ne (λ k q e o. o ∙ sym (ap f e ∙ t)) (λ k q d. refl) }
+
+-- ---- the slots that come to lead to s
+
+-- the other open slots, as the code masks them
+abbrev pub others : ℕ → ℕ → ℕ
+others free s = bitAnd (2 ^ 32 - 1 - free) (2 ^ 32 - 1 - 1 * 2 ^ s % 2 ^ 32)
+
+pub others-fits : (free s : ℕ) → others free s < 2 ^ 32
+others-fits free s = lt-of-le-of-lt (and-le-l (2 ^ 32 - 1 - free) (2 ^ 32 - 1 - 1 * 2 ^ s % 2 ^ 32)) (omega arith)
+
+bit-other : {free s k : ℕ} → free < 2 ^ 32 → s < 32 → k < 32 → bit (others free s) k ≡ not (bit free k) && not (eqb k s)
+bit-other {free} {s} {k} h hs q =
+    bit-and (2 ^ 32 - 1 - free) (2 ^ 32 - 1 - 1 * 2 ^ s % 2 ^ 32) k
+    ∙ ap₂ _&&_ (bit-others 32 free k h q)
+    (ap (λ (x : ℕ). bit (2 ^ 32 - 1 - x) k) (one-shl hs) ∙ bit-others 32 (2 ^ s) k (pow-lt hs) q ∙ ap not (bit-pow s k))
+
+-- slot i is open and comes to lead to s
+abbrev pub touches : ℕ → List ℕ → Bool → ℕ → ℕ → ℕ → Bool
+touches free l w s c i = not (bit free i) && touched (sets-only l) (kind-of w) s c i
+
+-- The loop gathers the others that clash, and s itself is added where its past does.
+pub touched-mask : {free s p m todo found r : ℕ} (l : List ℕ) (w : Bool) (c : ℕ) (b : Bool) → free < 2 ^ 32 → s < 32 → bit free s ≡ false
+    → p ≡ c / 64 → m ≡ 2 ^ (c % 64) → Gathering (others free s) (clashes l w p m) todo found → todo ≡ 0 → r ≡ past-word l w p s → tests r m ≡ b
+    → cond b (bitOr found (1 * 2 ^ s % 2 ^ 32)) found ≡ mask-of 32 (touches free l w s c)
+unfolding touched
+touched-mask {free} {s} {p} {m} {todo} {found} {r} l w c b hf hs here ep em g e er eb =
+    masked 32 (λ i. not (bit free i) && ((not (eqb i s) && own i) || past i)) (fits b) (λ k q. with-own b k ∙ ap₂ (λ (x y : Bool). x || y && eqb k s) (gathered k q) itself ∙ agree k)
+  where
+    own : ℕ → Bool
+    own i = meets (own-at (sets-only l) i) (kind-of w) c
+
+    past : ℕ → Bool
+    past i = meets (past-at (sets-only l) i) (kind-of w) c
+
+    fits : (b : Bool) → cond b (bitOr found (1 * 2 ^ s % 2 ^ 32)) found < 2 ^ 32
+    fits true = more-fits (g .fits) hs
+    fits false = g .fits
+
+    with-own : (b : Bool) (k : ℕ) → bit (cond b (bitOr found (1 * 2 ^ s % 2 ^ 32)) found) k ≡ bit found k || b && eqb k s
+    with-own true k = bit-more found s k hs
+    with-own false k = sym (or-false (bit found k))
+
+    gathered : (k : ℕ) → k < 32 → bit found k ≡ cond (not (bit free k) && not (eqb k s)) (own k || past k) false
+    gathered k q =
+        visit-end (g .marks) e k q
+        ∙ ap₂ (λ (x y : Bool). cond x y false) (bit-other hf hs q)
+        (ap₂ (λ (x y : ℕ). tests (clash-word l w x k) y) ep em ∙ tests-bit (clash-word l w (c / 64) k) (c % 64) ∙ clash-bit l c k w)
+
+    itself : b ≡ past s
+    itself =
+        sym eb ∙ ap₂ tests (er ∙ ap (λ (x : ℕ). past-word l w x s) ep) em ∙ tests-bit (past-word l w (c / 64) s) (c % 64) ∙ past-bit l c s w
+
+    agree : (k : ℕ) → cond (not (bit free k) && not (eqb k s)) (own k || past k) false || past s && eqb k s ≡ not (bit free k) && ((not (eqb k s) && own k) || past k)
+    agree k =
+        by-test (λ (t : Bool). cond (not (bit free k) && not t) (own k || past k) false || past s && t ≡ not (bit free k) && ((not t && own k) || past k)) (eq-test k s)
+        (λ i. let o : not (bit free k) ≡ true = ap (λ (x : ℕ). not (bit free x)) i ∙ ap not here in
+        ap (λ (t : Bool). cond (t && false) (own k || past k) false || past s && true) o ∙ and-true (past s) ∙ ap past (sym i) ∙ ap (λ (t : Bool). t && past k) (sym o))
+        (λ d. go (not (bit free k)) (own k || past k) (past s))
+      where
+        go : (t x y : Bool) → cond (t && true) x false || y && false ≡ t && x
+        go true x y = ap (λ (z : Bool). x || z) (and-false y) ∙ or-false x
+        go false x y = and-false y

@@ -1,0 +1,5 @@
+pub mod MaskLaws
+pub mod SearchLaws
+pub mod SetLaws
+pub mod ClashLaws
+pub mod RequestLaws

@@ -1,0 +1,48 @@
+-- `arbiter::end_job` meets its contract: a law of RequestLaws for each way out. Assumes nothing.
+use mathlib.Core.Path.{_≡_}
+use mathlib.Core.Bool.{false}
+use Prim.Native.Nat.{_<_}
+use borrow.Author.Needs.{needs}
+use Rattle.marks.specs.Marks.{bit}
+use Rattle.arbiter.proofs.RequestLaws.{slot, slot-open, leads-others, does-end-not-open, does-end-granted}
+use Rattle.arbiter.proofs.end_job.Statement.{statement}
+use Rattle.arbiter.proofs.end_job.Tie as tie
+
+returns-not-open : tie.Need-returns
+returns-not-open c = does-end-not-open (c .before .before .holding .ensures) (c .before .if1 .taken) (c .refused .ensures)
+
+-- the slot found is a slot, and not among those that lead to it
+found : (c : tie.Else1) → slot (c .before .holding .result) < 32
+found c = let a = c .before .before .before .args in slot-open (a .free) (a .numbers .now) (a .job .0) (c .before .holding .ensures) (c .if1 .left) .0
+
+others : (c : tie.After-leading) → let s = slot (c .before .before .before .holding .result) in (s < 32) × (bit (c .leading .result) s ≡ false)
+others c =
+    let e = c .before .before in
+    let a = e .before .before .before .args in
+    (found e, leads-others (a .free) (a .leads .now) (slot (e .before .holding .result)) (c .leading .ensures) (found e))
+
+leading-requires : tie.Need-leading-requires
+leading-requires c κs = found (c .before)
+
+fold-sets-requires : tie.Need-fold-sets-requires
+fold-sets-requires c κs = others (c .before)
+
+fold-leads-requires : tie.Need-fold-leads-requires
+fold-leads-requires c κs = others (c .before .before .before)
+
+leave-requires : tie.Need-leave-requires
+leave-requires c κs = found (c .before .before .before .before .before .before .before .before .before)
+
+returns-granted : tie.Need-returns-2
+returns-granted c =
+    let l = c .before .before .before .before in
+    let f = l .before .before in
+    let g = f .before .before in
+    let e = g .before .before in
+    does-end-granted (e .before .holding .ensures) (e .if1 .left) (e .before .before .before .fits .free .fits) (g .leading .ensures) (f .fold-sets .ensures)
+    (l .fold-leads .ensures) (c .leave .ensures)
+
+pub end-job-spec : {M : Type 1} → statement M
+end-job-spec =
+    tie.close
+    (tie.spec (λ c κs. search needs) (λ c κs. search needs) returns-not-open leading-requires fold-sets-requires fold-leads-requires leave-requires returns-granted)

@@ -1,0 +1,35 @@
+-- `arbiter::fold_sets` meets its contract. The loop's invariant: the rows of `from` that are not left in `todo` have taken over, and no other word has
+-- changed. The measure is `todo`. Assumes nothing.
+use native.Mathlib.Omega.{arith}
+use borrow.Author.Needs.{needs}
+use Rattle.arbiter.proofs.MaskLaws.{left-less, left-inside}
+use Rattle.arbiter.proofs.SetLaws.{Folding, fold-start, fold-other, fold-turn, fold-end}
+use Rattle.arbiter.proofs.fold_sets.Statement.{statement}
+use Rattle.arbiter.proofs.fold_sets.Tie as tie
+
+abbrev Inv-loop : tie.InvT-loop
+Inv-loop sets₀ from slot todo₀ sets todo = Folding 512 from (slot .0) sets₀ todo sets
+
+abbrev μ-loop : tie.MeasureT-loop
+μ-loop sets₀ from slot todo₀ sets todo = todo
+
+loop-holds : tie.Need-loop-holds Inv-loop μ-loop
+loop-holds c = fold-start (search needs) (c .before .before .fits .from .fits)
+
+take-over-requires : tie.Need-take-over-requires Inv-loop μ-loop
+take-over-requires c κs =
+    let f = c .before .before .loop .inv in
+    let ne = c .before .loop-test .taken in
+    let pre = c .before .before .before .before .before .pre in
+    (left-inside (f .rows .left) ne, pre .0, fold-other f ne (pre .1))
+
+loop-again : tie.Need-loop-again Inv-loop μ-loop
+loop-again c =
+    let pre = c .before .before .before .before .before .before .pre in
+    fold-turn (c .before .before .before .loop .inv) (c .before .before .loop-test .taken) (omega (arith, pre .0)) (pre .1) (c .take-over .ensures)
+
+pub fold-sets-spec : {M : Type 1} → statement M
+fold-sets-spec =
+    tie.close
+    (tie.spec Inv-loop μ-loop loop-holds (λ c. search needs) take-over-requires (λ c. left-less (c .before .before .loop-test .taken)) loop-again
+    (λ c. fold-end (c .before .loop .inv) (c .loop-test .left)))

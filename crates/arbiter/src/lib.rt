@@ -1,0 +1,556 @@
+// The arbiter: the state, the request, the step. The work is done in place on lent arrays (`step_in_place`); the step by value takes the
+// state apart, lends its arrays and puts it together again.
+ghost use mathlib.Core.Path.{_≡_};
+ghost use mathlib.Core.Bool.{Bool, true, false, not, _&&_, _||_, cond};
+ghost use Prim.Native.Nat.{ℕ, _+_, _-_, _*_, _/_, _%_, _^_, _≤_, _<_};
+ghost use lib.Bits.{bitOr, bitAnd};
+ghost use lib.Dec.{T, leb, eqb};
+ghost use lib.ListN.{getD, take, drop};
+ghost use Rattle.graph.specs.Lists.{only};
+ghost use Rattle.graph.specs.Reach.{reach};
+ghost use Rattle.marks.specs.Marks.{bit, mask-of, without, tab, upto};
+ghost use Rattle.history.specs.Replies.{an-open, a-step, an-end, an-abandon};
+ghost use Rattle.held.specs.Held.{fresh-held, touched, answer-to, after};
+ghost use Rattle.arbiter.specs.Lent.{lent, sets-only, request-of, numbered, kind-of, Does, Steps};
+use cells::Cell;
+use cells::CellSet;
+
+// The number of a job, issued once.
+pub struct JobNumber(pub u32);
+
+// A row of the state, 0 to 31. Never a job number.
+pub struct Slot(pub u32);
+
+// What the arbiter answers: a grant with the job, or one of the refusals.
+pub enum Answer {
+    Granted(JobNumber),
+    Malformed,
+    NoCell,
+    NotOpen,
+    HasWritten,
+    Full,
+    Spent,
+    Circle,
+}
+
+impl Answer {
+    // Document 01's code.
+    pub fn code(self) -> u32
+        ensures { λ r. ⌜ r ≡ numbered self .code ⌝ }
+    {
+        match self {
+            Answer::Granted(_) => 0,
+            Answer::Malformed => 1,
+            Answer::NoCell => 2,
+            Answer::NotOpen => 3,
+            Answer::HasWritten => 4,
+            Answer::Full => 5,
+            Answer::Spent => 6,
+            Answer::Circle => 7,
+        }
+    }
+
+    // The job of a grant, and job 0 for a refusal.
+    pub fn job(self) -> JobNumber
+        ensures { λ r. ⌜ r .0 ≡ numbered self .job ⌝ }
+    {
+        match self {
+            Answer::Granted(job) => job,
+            Answer::Malformed => JobNumber(0),
+            Answer::NoCell => JobNumber(0),
+            Answer::NotOpen => JobNumber(0),
+            Answer::HasWritten => JobNumber(0),
+            Answer::Full => JobNumber(0),
+            Answer::Spent => JobNumber(0),
+            Answer::Circle => JobNumber(0),
+        }
+    }
+}
+
+// What a request leaves beside the arrays: the next number, the free slots and the answer.
+pub struct Moved {
+    pub next: u64,
+    pub free: u32,
+    pub answer: Answer,
+}
+
+// ---- masks of slots
+
+// The open slots that hold the number.
+fn holding(free: u32, numbers: &[u32; 32], job: JobNumber) -> u32
+    ensures { λ r. ⌜ r ≡ mask-of 32 (λ i. not (bit free i) && eqb (getD (now (numbers .entry)) i 0) (job .0)) ⌝ }
+{
+    let mut found: u32 = 0;
+    let mut i: u32 = 0;
+    while i < 32 {
+        if numbers[i as usize] == job.0 {
+            found |= 1u32 << i;
+        }
+        i += 1;
+    }
+    found & !free
+}
+
+// The other open slots whose rows lead to the slot.
+fn leading(free: u32, leads: &[u32; 32], slot: Slot) -> u32
+    requires { ⌜ slot .0 < 32 ⌝ }
+    ensures { λ r. ⌜ r ≡ mask-of 32 (λ i. not (bit free i) && (not (eqb i (slot .0)) && bit (getD (now (leads .entry)) i 0) (slot .0))) ⌝ }
+{
+    let mut found: u32 = 0;
+    let mut i: u32 = 0;
+    while i < 32 {
+        found |= ((leads[i as usize] >> slot.0) & 1) << i;
+        i += 1;
+    }
+    found & !(1u32 << slot.0) & !free
+}
+
+// The open slots reached from the slot by one lead or more, over open slots.
+fn reached(free: u32, leads: &[u32; 32], slot: Slot) -> u32
+    requires { ⌜ slot .0 < 32 ⌝ }
+    ensures { λ r. ⌜ r ≡ mask-of 32 (λ x. not (bit free x) && reach (λ i y. bit (getD (now (leads .entry)) i 0) y) (only (λ i. not (bit free i)) (upto 32)) (slot .0) x) ⌝ }
+{
+    let mut seen = leads[slot.0 as usize] & !free;
+    let mut todo = seen;
+    while todo != 0 {
+        let i = u32::trailing_zeros(todo);
+        let fresh = leads[i as usize] & !free & !seen;
+        seen |= fresh;
+        todo = (todo & (todo - 1)) | fresh;
+    }
+    seen
+}
+
+// ---- clashes
+
+// The word of a row's sets in which a clash with a step on a cell of that place would show, own and past together: the writes, and for a write the
+// reads too.
+fn clashing(sets: &[u64; 512], row: Slot, write: bool, place: usize) -> u64
+    requires { ⌜ (row .0 < 32) × (place < 4) ⌝ }
+    ensures { λ r. ⌜ r ≡ cond write
+        (bitOr (bitOr (getD (now (sets .entry)) (row .0 * 16 + (4 + place)) 0) (getD (now (sets .entry)) (row .0 * 16 + (12 + place)) 0)) (bitOr (getD (now (sets .entry)) (row .0 * 16 + place) 0) (getD (now (sets .entry)) (row .0 * 16 + (8 + place)) 0)))
+        (bitOr (getD (now (sets .entry)) (row .0 * 16 + (4 + place)) 0) (getD (now (sets .entry)) (row .0 * 16 + (12 + place)) 0)) ⌝ }
+{
+    let at = (row.0 as usize) * 16;
+    let writes = sets[at + (4 + place)] | sets[at + (12 + place)];
+    if write {
+        return writes | (sets[at + place] | sets[at + (8 + place)]);
+    }
+    writes
+}
+
+// The same of the past alone.
+fn clashing_past(sets: &[u64; 512], row: Slot, write: bool, place: usize) -> u64
+    requires { ⌜ (row .0 < 32) × (place < 4) ⌝ }
+    ensures { λ r. ⌜ r ≡ cond write
+        (bitOr (getD (now (sets .entry)) (row .0 * 16 + (12 + place)) 0) (getD (now (sets .entry)) (row .0 * 16 + (8 + place)) 0))
+        (getD (now (sets .entry)) (row .0 * 16 + (12 + place)) 0) ⌝ }
+{
+    let at = (row.0 as usize) * 16;
+    if write {
+        return sets[at + (12 + place)] | sets[at + (8 + place)];
+    }
+    sets[at + (12 + place)]
+}
+
+// The open slots that come to lead to the asking slot, which is open, at its step.
+fn touching(free: u32, sets: &[u64; 512], slot: Slot, write: bool, cell: Cell) -> u32
+    requires { ⌜ (slot .0 < 32) × (bit free (slot .0) ≡ false) ⌝ }
+    ensures { λ r. ⌜ r ≡ mask-of 32 (λ i. not (bit free i) && touched (sets-only (now (sets .entry))) (kind-of write) (slot .0) (cell .0) i) ⌝ }
+{
+    let place = cell.place();
+    let mark = cell.mark();
+    let mut todo = !free & !(1u32 << slot.0);
+    let mut found: u32 = 0;
+    while todo != 0 {
+        let i = u32::trailing_zeros(todo);
+        todo &= todo - 1;
+        if clashing(sets, Slot(i), write, place) & mark != 0 {
+            found |= 1u32 << i;
+        }
+    }
+    if clashing_past(sets, slot, write, place) & mark != 0 {
+        found |= 1u32 << slot.0;
+    }
+    found
+}
+
+// ---- rows changed. An array is taken as a slice first: a slice tells the proof how long it is and that its elements are in range, a reference to an array does not.
+
+// The slots of the mask come to lead to the slot.
+fn lead_to(leads: &mut [u32; 32], from: u32, slot: Slot)
+    requires { ⌜ slot .0 < 32 ⌝ }
+    ensures { λ _. ⌜ now (leads .exit) ≡ tab 32 (λ i. cond (bit from i) (bitOr (getD (now (leads .entry)) i 0) (2 ^ (slot .0))) (getD (now (leads .entry)) i 0)) ⌝ }
+{
+    let rows = &mut leads[..];
+    let mut todo = from;
+    while todo != 0 {
+        let i = u32::trailing_zeros(todo);
+        todo &= todo - 1;
+        rows[i as usize] |= 1u32 << slot.0;
+    }
+}
+
+// No row leads to the slot, and its own row leads nowhere.
+fn strike(leads: &mut [u32; 32], slot: Slot)
+    requires { ⌜ slot .0 < 32 ⌝ }
+    ensures { λ _. ⌜ now (leads .exit) ≡ tab 32 (λ i. cond (eqb i (slot .0)) 0 (without (getD (now (leads .entry)) i 0) (slot .0))) ⌝ }
+{
+    let rows = &mut leads[..];
+    let others = !(1u32 << slot.0);
+    let mut i: usize = 0;
+    while i < 32 {
+        rows[i] &= others;
+        i += 1;
+    }
+    rows[slot.0 as usize] = 0;
+}
+
+// The slot's sets are empty.
+fn blank(sets: &mut [u64; 512], slot: Slot)
+    requires { ⌜ slot .0 < 32 ⌝ }
+    ensures { λ _. ⌜ now (sets .exit) ≡ tab 512 (λ w. cond (eqb (w / 16) (slot .0)) 0 (getD (now (sets .entry)) w 0)) ⌝ }
+{
+    let all = &mut sets[..];
+    let at = (slot.0 as usize) * 16;
+    let mut i: usize = 0;
+    while i < 16 {
+        all[at + i] = 0;
+        i += 1;
+    }
+}
+
+// The four words from a place on, as a set.
+fn load(sets: &[u64; 512], at: usize) -> CellSet
+    requires { ⌜ at ≤ 508 ⌝ }
+    ensures { λ r. ⌜ r .words ≡ take 4 (drop at (now (sets .entry))) ⌝ }
+{
+    let all = &sets[..];
+    CellSet {
+        words: [all[at], all[at + 1], all[at + 2], all[at + 3]],
+    }
+}
+
+fn store(sets: &mut [u64; 512], at: usize, set: CellSet)
+    requires { ⌜ at ≤ 508 ⌝ }
+    ensures { λ _. ⌜ now (sets .exit) ≡ tab 512 (λ w. cond (leb at w && leb w (at + 3)) (getD (set .words) (w - at) 0) (getD (now (sets .entry)) w 0)) ⌝ }
+{
+    let words = set.words;
+    let all = &mut sets[..];
+    all[at] = words[0];
+    all[at + 1] = words[1];
+    all[at + 2] = words[2];
+    all[at + 3] = words[3];
+}
+
+// The slot's own reads or writes gain the cell.
+fn mark_own(sets: &mut [u64; 512], slot: Slot, write: bool, cell: Cell)
+    requires { ⌜ slot .0 < 32 ⌝ }
+    ensures { λ _. ⌜ now (sets .exit) ≡ tab 512 (λ w. cond (eqb w (slot .0 * 16 + (cond write 4 0 + cell .0 / 64))) (bitOr (getD (now (sets .entry)) w 0) (2 ^ (cell .0 % 64))) (getD (now (sets .entry)) w 0)) ⌝ }
+{
+    let mut at = (slot.0 as usize) * 16;
+    if write {
+        at += 4;
+    }
+    let own = load(sets, at).with(cell);
+    store(sets, at, own);
+}
+
+// A row's past gains own and past of the slot, another one.
+fn take_over(sets: &mut [u64; 512], row: Slot, slot: Slot)
+    requires { ⌜ (row .0 < 32) × (slot .0 < 32) × (row .0 ≡ slot .0 → ⊥) ⌝ }
+    ensures { λ _. ⌜ now (sets .exit) ≡ tab 512 (λ w. cond (eqb (w / 16) (row .0) && leb 8 (w % 16))
+        (bitOr (getD (now (sets .entry)) w 0) (bitOr (getD (now (sets .entry)) (slot .0 * 16 + (w % 16 - 8)) 0) (getD (now (sets .entry)) (slot .0 * 16 + w % 16) 0)))
+        (getD (now (sets .entry)) w 0)) ⌝ }
+{
+    let to = (row.0 as usize) * 16 + 8;
+    let from = (slot.0 as usize) * 16;
+    let reads = load(sets, to).union(load(sets, from).union(load(sets, from + 8)));
+    store(sets, to, reads);
+    let writes = load(sets, to + 4).union(load(sets, from + 4).union(load(sets, from + 12)));
+    store(sets, to + 4, writes);
+}
+
+// Every slot of the mask, the slot not among them, takes over the slot's sets.
+fn fold_sets(sets: &mut [u64; 512], from: u32, slot: Slot)
+    requires { ⌜ (slot .0 < 32) × (bit from (slot .0) ≡ false) ⌝ }
+    ensures { λ _. ⌜ now (sets .exit) ≡ tab 512 (λ w. cond (bit from (w / 16) && leb 8 (w % 16))
+        (bitOr (getD (now (sets .entry)) w 0) (bitOr (getD (now (sets .entry)) (slot .0 * 16 + (w % 16 - 8)) 0) (getD (now (sets .entry)) (slot .0 * 16 + w % 16) 0)))
+        (getD (now (sets .entry)) w 0)) ⌝ }
+{
+    // For the proof alone: with no slot in the mask, too, the words are 512.
+    let words = &sets[..];
+    let mut todo = from;
+    while todo != 0 {
+        let i = u32::trailing_zeros(todo);
+        todo &= todo - 1;
+        take_over(sets, Slot(i), slot);
+    }
+}
+
+// Every slot of the mask, the slot not among them, takes over the slot's leads to open slots.
+fn fold_leads(free: u32, leads: &mut [u32; 32], from: u32, slot: Slot)
+    requires { ⌜ (slot .0 < 32) × (bit from (slot .0) ≡ false) ⌝ }
+    ensures { λ _. ⌜ now (leads .exit) ≡ tab 32 (λ i. cond (bit from i) (bitOr (getD (now (leads .entry)) i 0) (bitAnd (getD (now (leads .entry)) (slot .0) 0) (2 ^ 32 - 1 - free))) (getD (now (leads .entry)) i 0)) ⌝ }
+{
+    let rows = &mut leads[..];
+    let theirs = rows[slot.0 as usize] & !free;
+    let mut todo = from;
+    while todo != 0 {
+        let i = u32::trailing_zeros(todo);
+        todo &= todo - 1;
+        rows[i as usize] |= theirs;
+    }
+}
+
+// ---- the requests
+
+// A refusal: nothing moves.
+fn refused(next: u64, free: u32, answer: Answer) -> Moved
+    ensures { λ r. ⌜ (r .next ≡ next) × (r .free ≡ free) × (r .answer ≡ answer) ⌝ }
+{
+    Moved {
+        next: next,
+        free: free,
+        answer: answer,
+    }
+}
+
+fn open_job(
+    next: u64,
+    free: u32,
+    numbers: &mut [u32; 32],
+    leads: &mut [u32; 32],
+    sets: &mut [u64; 512],
+) -> Moved
+    ensures { λ r. ⌜ Does (lent next free (now (numbers .entry)) (now (leads .entry)) (now (sets .entry))) an-open 0 0 r (now (numbers .exit)) (now (leads .exit)) (now (sets .exit)) ⌝ }
+{
+    if 4294967296 <= next {
+        return refused(next, free, Answer::Spent);
+    }
+    if u32::count_ones(free) == 0 {
+        return refused(next, free, Answer::Full);
+    }
+    let slot = Slot(u32::trailing_zeros(free));
+    let number = (next % 4294967296) as u32;
+    let rows = &mut numbers[..];
+    rows[slot.0 as usize] = number;
+    strike(leads, slot);
+    blank(sets, slot);
+    Moved {
+        next: next + 1,
+        free: free & !(1u32 << slot.0),
+        answer: Answer::Granted(JobNumber(number)),
+    }
+}
+
+fn step_job(
+    next: u64,
+    free: u32,
+    numbers: &[u32; 32],
+    leads: &mut [u32; 32],
+    sets: &mut [u64; 512],
+    write: bool,
+    job: JobNumber,
+    cell: u32,
+) -> Moved
+    ensures { λ r. ⌜ Does (lent next free (now (numbers .entry)) (now (leads .entry)) (now (sets .entry))) (a-step (kind-of write)) (job .0) cell r (now (numbers .entry)) (now (leads .exit)) (now (sets .exit)) ⌝ }
+{
+    if 256 <= cell {
+        return refused(next, free, Answer::NoCell);
+    }
+    let found = holding(free, numbers, job);
+    if found == 0 {
+        return refused(next, free, Answer::NotOpen);
+    }
+    let slot = Slot(u32::trailing_zeros(found));
+    let real = Cell((cell % 256) as u8);
+    let touched = touching(free, sets, slot, write, real);
+    let seen = reached(free, leads, slot);
+    let me = 1u32 << slot.0;
+    if (seen & me) | ((seen | me) & touched) != 0 {
+        return refused(next, free, Answer::Circle);
+    }
+    lead_to(leads, touched, slot);
+    mark_own(sets, slot, write, real);
+    Moved {
+        next: next,
+        free: free,
+        answer: Answer::Granted(job),
+    }
+}
+
+// The slot is free: its row blank, and no row leads to it.
+fn leave(
+    next: u64,
+    free: u32,
+    numbers: &mut [u32; 32],
+    leads: &mut [u32; 32],
+    sets: &mut [u64; 512],
+    slot: Slot,
+    job: JobNumber,
+) -> Moved
+    requires { ⌜ slot .0 < 32 ⌝ }
+    ensures { λ r. ⌜ (r .next ≡ next) × (r .free ≡ bitOr free (2 ^ (slot .0))) × (numbered (r .answer) ≡ record { code = 0; job = job .0 })
+        × (now (numbers .exit) ≡ tab 32 (λ i. cond (eqb i (slot .0)) 0 (getD (now (numbers .entry)) i 0)))
+        × (now (leads .exit) ≡ tab 32 (λ i. cond (eqb i (slot .0)) 0 (without (getD (now (leads .entry)) i 0) (slot .0))))
+        × (now (sets .exit) ≡ tab 512 (λ w. cond (eqb (w / 16) (slot .0)) 0 (getD (now (sets .entry)) w 0))) ⌝ }
+{
+    let rows = &mut numbers[..];
+    rows[slot.0 as usize] = 0;
+    strike(leads, slot);
+    blank(sets, slot);
+    Moved {
+        next: next,
+        free: free | (1u32 << slot.0),
+        answer: Answer::Granted(job),
+    }
+}
+
+fn end_job(
+    next: u64,
+    free: u32,
+    numbers: &mut [u32; 32],
+    leads: &mut [u32; 32],
+    sets: &mut [u64; 512],
+    job: JobNumber,
+) -> Moved
+    ensures { λ r. ⌜ Does (lent next free (now (numbers .entry)) (now (leads .entry)) (now (sets .entry))) an-end (job .0) 0 r (now (numbers .exit)) (now (leads .exit)) (now (sets .exit)) ⌝ }
+{
+    let found = holding(free, numbers, job);
+    if found == 0 {
+        return refused(next, free, Answer::NotOpen);
+    }
+    let slot = Slot(u32::trailing_zeros(found));
+    let from = leading(free, leads, slot);
+    fold_sets(sets, from, slot);
+    fold_leads(free, leads, from, slot);
+    leave(next, free, numbers, leads, sets, slot, job)
+}
+
+fn abandon_job(
+    next: u64,
+    free: u32,
+    numbers: &mut [u32; 32],
+    leads: &mut [u32; 32],
+    sets: &mut [u64; 512],
+    job: JobNumber,
+) -> Moved
+    ensures { λ r. ⌜ Does (lent next free (now (numbers .entry)) (now (leads .entry)) (now (sets .entry))) an-abandon (job .0) 0 r (now (numbers .exit)) (now (leads .exit)) (now (sets .exit)) ⌝ }
+{
+    let found = holding(free, numbers, job);
+    if found == 0 {
+        return refused(next, free, Answer::NotOpen);
+    }
+    let slot = Slot(u32::trailing_zeros(found));
+    let written = load(sets, (slot.0 as usize) * 16 + 4);
+    if !written.is_empty() {
+        return refused(next, free, Answer::HasWritten);
+    }
+    leave(next, free, numbers, leads, sets, slot, job)
+}
+
+fn wide(b: u8) -> u32
+    ensures { λ r. ⌜ (r ≡ b) × (r < 256) ⌝ }
+{
+    b as u32
+}
+
+// One request in place: the arrays are lent, the rest goes in and comes back. A refusal leaves every array as it was.
+pub fn step_in_place(
+    next: u64,
+    free: u32,
+    numbers: &mut [u32; 32],
+    leads: &mut [u32; 32],
+    sets: &mut [u64; 512],
+    request: [u8; 8],
+) -> Moved
+    ensures { λ r. ⌜ Steps (lent next free (now (numbers .entry)) (now (leads .entry)) (now (sets .entry))) (request-of request) r (now (numbers .exit)) (now (leads .exit)) (now (sets .exit)) ⌝ }
+{
+    if request[1] != 0 {
+        return refused(next, free, Answer::Malformed);
+    }
+    let kind = request[0];
+    let cell = wide(request[2]) + wide(request[3]) * 256;
+    let job = JobNumber(
+        wide(request[4])
+            + wide(request[5]) * 256
+            + wide(request[6]) * 65536
+            + wide(request[7]) * 16777216,
+    );
+    match kind {
+        1 => open_job(next, free, numbers, leads, sets),
+        2 => step_job(next, free, numbers, leads, sets, false, job, cell),
+        3 => step_job(next, free, numbers, leads, sets, true, job, cell),
+        4 => end_job(next, free, numbers, leads, sets, job),
+        5 => abandon_job(next, free, numbers, leads, sets, job),
+        _ => refused(next, free, Answer::Malformed),
+    }
+}
+
+// ---- the state by value
+
+pub struct State {
+    pub next: u64,
+    pub free: u32,
+    pub numbers: [u32; 32],
+    pub leads: [u32; 32],
+    pub sets: [u64; 512],
+}
+
+// A state with the answer that led to it.
+pub struct Stepped {
+    pub state: State,
+    pub answer: Answer,
+}
+
+impl State {
+    // At most so many jobs are open at once; so many cells there are; so many jobs are opened in one log.
+    pub const SLOTS: usize = 32;
+
+    pub const CELLS: usize = 256;
+
+    pub const JOBS: usize = 512;
+
+    // No job open. The first job gets the first number.
+    pub fn fresh(first: JobNumber) -> State
+        ensures { λ r. ⌜ lent (r .next) (r .free) (r .numbers) (r .leads) (r .sets) ≡ fresh-held (first .0) ⌝ }
+    {
+        State {
+            next: first.0 as u64,
+            free: 0xffff_ffff,
+            numbers: [0; 32],
+            leads: [0; 32],
+            sets: [0; 512],
+        }
+    }
+
+    // The state after one request, with the answer. A refusal leaves the state as it was.
+    pub fn step(self, request: [u8; 8]) -> Stepped
+        ensures { λ r. ⌜ (numbered (r .answer) ≡ answer-to (lent (self .next) (self .free) (self .numbers) (self .leads) (self .sets)) (request-of request))
+            × (lent (r .state .next) (r .state .free) (r .state .numbers) (r .state .leads) (r .state .sets) ≡ after (lent (self .next) (self .free) (self .numbers) (self .leads) (self .sets)) (request-of request)) ⌝ }
+    {
+        let mut numbers = self.numbers;
+        let mut leads = self.leads;
+        let mut sets = self.sets;
+        let m = step_in_place(
+            self.next,
+            self.free,
+            &mut numbers,
+            &mut leads,
+            &mut sets,
+            request,
+        );
+        let answer = m.answer;
+        Stepped {
+            state: State {
+                next: m.next,
+                free: m.free,
+                numbers: numbers,
+                leads: leads,
+                sets: sets,
+            },
+            answer: answer,
+        }
+    }
+}

@@ -1,0 +1,307 @@
+-- What every request keeps of a state, whatever the state holds: the ranges of its numbers (`ranges-after`), and that rows which are not open are blank
+-- (`blank-after`). From a fresh state both hold through any list of requests (`ranges-kept`, `blank-rows`). And the slot that an open takes
+-- (`lowest-slot`), and that a refusal leaves the state as it was (`refusal-held`).
+-- Assumes nothing.
+use mathlib.Core.Path.{_≡_, refl, sym, ap, _∙_, subst}
+use mathlib.Core.Logic.{⊎-elim}
+use mathlib.Core.Bool.{Bool, true, false, not, _&&_, _||_, cond}
+use mathlib.Core.List.{List}
+use Prim.Native.Nat.{ℕ, _+_, _-_, _*_, _/_, _%_, _^_, _≤_, _<_}
+use native.Mathlib.Omega.{arith}
+use lib.Bits.{bitOr, or-lt, and-lt}
+use lib.Dec.{T, leb, eqb, eqb-refl}
+use lib.ListN.{length}
+use lib.Pow.{pow-lt}
+use Rattle.graph.specs.Decide.{not-test, test-false, eq-test, answer, T-and, is-false, false-is}
+use Rattle.marks.specs.Marks.{bit, mask-of}
+use Rattle.history.specs.Events.{Kind, read, write}
+use Rattle.history.specs.Replies.{cells, most-open, numbers, Request, Want, an-open, want, first-of, tests, code-of}
+use Rattle.history.specs.Granted.{below-bound}
+use Rattle.held.specs.Held.{Held, word-marks, row-words, past-place, all-words, fresh-held, number-at, leads-at, word-at, open-at, open-slots, set-place, touched, first-in, facts, opened-at, stepped-at, left-at, with-slot, free-slot, moved, after, after-all}
+use Rattle.marks.specs.MarkLaws.{length-tab, bit-zero, bit-pow, mask-lt}
+use Rattle.held.specs.MoreMarks.{T-left, or-unmarked, and-unmarked, without-unmarked, without-struck, without-zero, without-below, cond-first, cond-second, cond-below, cond-zero, cond-unmarked, LowestOf, lowest-passing}
+use Rattle.history.specs.Granted.{passed}
+use Rattle.held.specs.HeldMoves.{read-tab, nth-word, opened-word, stepped-word, left-word, number-opened, leads-opened, word-opened, leads-stepped, word-stepped, number-left, leads-left, word-left, open-opened, open-left, Moves, kept-after, kept-after-all}
+
+-- ---- ranges
+
+-- the lists have their lengths, and every number is one that there is room for
+pub record Ranges (h : Held) : Type 0 where
+  pub next : h .next < 2 ^ 64
+  pub free : h .free < 2 ^ most-open
+  pub number-count : length (h .numbers) ≡ most-open
+  pub leads-count : length (h .leads) ≡ most-open
+  pub word-count : length (h .sets) ≡ all-words
+  pub number : (i : ℕ) → i < most-open → number-at h i < numbers
+  pub leads : (i : ℕ) → i < most-open → leads-at h i < 2 ^ most-open
+  pub word : (w : ℕ) → w < all-words → nth-word h w < 2 ^ word-marks
+
+-- a bound carried over an equation
+below-as : {x y n : ℕ} → x ≡ y → y < n → x < n
+below-as e q = omega arith
+
+-- a word of row i
+pub word-below : {h : Held} → Ranges h → (i o : ℕ) → i < most-open → o < row-words → word-at h i o < 2 ^ word-marks
+unfolding word-at
+word-below r i o p q = r .word (i * row-words + o) (omega arith)
+
+module _ {h : Held} (r : Ranges h) (s : ℕ) (q : s < most-open) where
+  -- each move keeps to them
+  ranges-opened : h .next < numbers → Ranges (opened-at h s)
+  unfolding opened-at
+  ranges-opened small =
+      record {
+        next = omega arith;
+        free = without-below (h .free) s most-open (r .free);
+        number-count = refl;
+        leads-count = refl;
+        word-count = length-tab all-words (opened-word h s);
+        number = λ i p. below-as (number-opened h s i p) (cond-below (eqb i s) small (r .number i p));
+        leads = λ i p. below-as (leads-opened h s i p) (cond-below (eqb i s) (omega arith) (without-below (leads-at h i) s most-open (r .leads i p)));
+        word = λ w p. below-as (word-opened h s w p) (cond-below (eqb (w / row-words) s) (omega arith) (r .word w p));
+      }
+
+  ranges-stepped : (k : Kind) (c : ℕ) → Ranges (stepped-at h k s c)
+  unfolding number-at stepped-at
+  ranges-stepped k c =
+      record {
+        next = r .next;
+        free = r .free;
+        number-count = r .number-count;
+        leads-count = refl;
+        word-count = length-tab all-words (λ w. stepped-word h s w k c);
+        number = r .number;
+        leads = λ i p.
+            below-as (leads-stepped h s k c i p)
+            (cond-below (open-at h i && touched h k s c i) (or-lt most-open (leads-at h i) (2 ^ s) (r .leads i p) (pow-lt q)) (r .leads i p));
+        word = λ w p.
+            below-as (word-stepped h s k c w p)
+            (cond-below (eqb w (s * row-words + (set-place k + c / word-marks)))
+            (or-lt word-marks (nth-word h w) (2 ^ (c % word-marks)) (r .word w p) (pow-lt {j = word-marks} (omega arith))) (r .word w p));
+      }
+
+  ranges-left : (t : ℕ → Bool) → Ranges (left-at h t s)
+  unfolding left-at
+  ranges-left t =
+      record {
+        next = r .next;
+        free = or-lt most-open (h .free) (2 ^ s) (r .free) (pow-lt q);
+        number-count = refl;
+        leads-count = refl;
+        word-count = length-tab all-words (λ w. left-word h s w t);
+        number = λ i p. below-as (number-left h s t i p) (cond-below (eqb i s) (omega arith) (r .number i p));
+        leads = λ i p.
+            let handed = and-lt most-open (leads-at h s) (mask-of most-open (open-at h)) (r .leads s q) (mask-lt most-open (open-at h)) in
+            below-as (leads-left h s t i p)
+            (cond-below (eqb i s) (omega arith)
+            (without-below _ s most-open (cond-below (t i) (or-lt most-open (leads-at h i) _ (r .leads i p) handed) (r .leads i p))));
+        word = λ w p.
+            let o = w % row-words in
+            let handed = or-lt word-marks _ _ (word-below r s (o - past-place) q (omega arith)) (word-below r s o q (omega arith)) in
+            below-as (word-left h s t w p)
+            (cond-below (eqb (w / row-words) s) (omega arith)
+            (cond-below (t (w / row-words) && leb past-place o) (or-lt word-marks (nth-word h w) _ (r .word w p) handed) (r .word w p)));
+      }
+
+ranges-moves : {h : Held} → Ranges h → Moves Ranges h
+ranges-moves r = record { opens = λ s q f small. ranges-opened r s q small; steps = λ k s c q o real. ranges-stepped r s q k c; leaves = λ t s q o only-open. ranges-left r s q t }
+
+-- every request, whatever its fields, keeps the ranges of every state, whatever it holds
+pub ranges-after : {h : Held} → Ranges h → (r : Request) → Ranges (after h r)
+ranges-after {h} g r = kept-after Ranges h g (ranges-moves g) r
+
+-- a fresh state is in range
+pub ranges-fresh : (first : ℕ) → first < 2 ^ 64 → Ranges (fresh-held first)
+unfolding fresh-held number-at leads-at
+ranges-fresh first q =
+    record {
+      next = q;
+      free = omega arith;
+      number-count = refl;
+      leads-count = refl;
+      word-count = length-tab {X = ℕ} all-words (λ w. 0);
+      number = λ i p. below-as (read-tab most-open (λ i. 0) i p) (omega arith);
+      leads = λ i p. below-as (read-tab most-open (λ i. 0) i p) (omega arith);
+      word = λ w p. below-as (read-tab all-words (λ w. 0) w p) (omega arith);
+    }
+
+-- and so is every state that requests give from it
+pub ranges-kept : (first : ℕ) → first < 2 ^ 64 → (rs : List Request) → Ranges (after-all (fresh-held first) rs)
+ranges-kept first q rs = kept-after-all Ranges (λ h g. ranges-moves g) (fresh-held first) (ranges-fresh first q) rs
+
+-- a next number that is at most 2 ^ 32 stays so
+abbrev Issuable : Held → Type 0
+Issuable h = h .next ≤ numbers
+
+pub next-kept : (h : Held) → h .next ≤ numbers → (r : Request) → after h r .next ≤ numbers
+unfolding opened-at stepped-at left-at
+next-kept h g r = kept-after Issuable h g (record { opens = λ s q f small. small; steps = λ k s c q o real. g; leaves = λ t s q o only-open. g }) r
+
+-- ---- blank rows
+
+-- nothing stands in row i, and nothing leads to slot i
+pub record BlankRow (h : Held) (i : ℕ) : Type 0 where
+  pub number : number-at h i ≡ 0
+  pub leads : leads-at h i ≡ 0
+  pub word : (o : ℕ) → o < row-words → word-at h i o ≡ 0
+  pub struck : (x : ℕ) → x < most-open → bit (leads-at h x) i ≡ false
+
+-- so it is with every slot that is not open
+pub record Blank (h : Held) : Type 0 where
+  pub row : (i : ℕ) → i < most-open → open-at h i ≡ false → BlankRow h i
+
+-- neither of two tests that fail together
+both-false : (a b : Bool) → a || b ≡ false → (a ≡ false) × (b ≡ false)
+both-false true b e = absurd (false-is e tt)
+both-false false b e = (refl, e)
+
+-- a word stands in one row only
+row-of : (i o : ℕ) → o < row-words → (i * row-words + o) / row-words ≡ i
+row-of i o q = omega arith
+
+row-alone : {i s o p : ℕ} → o < row-words → p < row-words → i * row-words + o ≡ s * row-words + p → i ≡ s
+row-alone q r e = omega arith
+
+-- the word of a cell stands in the row it is put down in
+place-below : (k : Kind) (c : ℕ) → c < cells → set-place k + c / word-marks < row-words
+place-below read c q = omega arith
+place-below write c q = omega arith
+
+module _ {h : Held} (b : Blank h) (s : ℕ) (q : s < most-open) where
+  -- each move keeps them blank
+  blank-opened : Blank (opened-at h s)
+  unfolding word-at
+  blank-opened =
+      record {
+        row = λ i p c.
+            let z = both-false (open-at h i) (eqb i s) (sym (open-opened h s i) ∙ c) in
+            let g = b .row i p (z .0) in
+            record {
+              number = number-opened h s i p ∙ ap (λ (b : Bool). cond b (h .next) (number-at h i)) (z .1) ∙ g .number;
+              leads = leads-opened h s i p ∙ cond-zero (eqb i s) refl (without-zero (leads-at h i) s (g .leads));
+              word = λ o k. word-opened h s (i * row-words + o) (omega arith) ∙ cond-zero (eqb ((i * row-words + o) / row-words) s) refl (g .word o k);
+              struck = λ x k.
+                  ap (λ (n : ℕ). bit n i) (leads-opened h s x k)
+                  ∙ cond-unmarked (eqb x s) 0 _ i (bit-zero i) (without-unmarked (leads-at h x) s i (g .struck x k));
+            };
+      }
+
+  blank-stepped : (k : Kind) (c : ℕ) → T (open-at h s) → c < cells → Blank (stepped-at h k s c)
+  unfolding number-at word-at open-at stepped-at
+  blank-stepped k c o real =
+      record {
+        row = λ i p z.
+            let g = b .row i p z in
+            let other : i ≡ s → ⊥ = λ e. false-is z (subst (λ (x : ℕ). T (open-at h x)) (sym e) o) in
+            record {
+              number = g .number;
+              leads = leads-stepped h s k c i p ∙ ap (λ (b : Bool). cond (b && touched h k s c i) (bitOr (leads-at h i) (2 ^ s)) (leads-at h i)) z ∙ g .leads;
+              word = λ o m.
+                  word-stepped h s k c (i * row-words + o) (omega arith)
+                  ∙ cond-second (eqb (i * row-words + o) _) _ _ (λ t. other (row-alone m (place-below k c real) (eq-test (i * row-words + o) _ .holds t)))
+                  ∙ g .word o m;
+              struck = λ x m.
+                  ap (λ (n : ℕ). bit n i) (leads-stepped h s k c x m)
+                  ∙ cond-unmarked (open-at h x && touched h k s c x) _ _ i
+                  (or-unmarked (leads-at h x) (2 ^ s) i (g .struck x m) (bit-pow s i ∙ test-false (eq-test i s) other)) (g .struck x m);
+            };
+      }
+
+  -- the row that is left is blank
+  left-row : (t : ℕ → Bool) → BlankRow (left-at h t s) s
+  unfolding word-at
+  left-row t =
+      record {
+        number = number-left h s t s q ∙ cond-first (eqb s s) 0 _ (eqb-refl s);
+        leads = leads-left h s t s q ∙ cond-first (eqb s s) 0 _ (eqb-refl s);
+        word = λ o k.
+            let w = s * row-words + o in
+            word-left h s t w (omega arith) ∙ cond-first (eqb (w / row-words) s) 0 _ (eq-test (w / row-words) s .shows (row-of s o k));
+        struck = λ x k. ap (λ (n : ℕ). bit n s) (leads-left h s t x k) ∙ cond-unmarked (eqb x s) 0 _ s (bit-zero s) (without-struck _ s);
+      }
+
+  -- one that was blank stays so, where it takes nothing over
+  kept-row : (t : ℕ → Bool) (i : ℕ) → i < most-open → BlankRow h i → (T (t i) → ⊥) → BlankRow (left-at h t s) i
+  unfolding word-at
+  kept-row t i p g nothing-taken =
+      record {
+        number = number-left h s t i p ∙ cond-zero (eqb i s) refl (g .number);
+        leads = leads-left h s t i p ∙ cond-zero (eqb i s) refl (without-zero _ s (cond-second (t i) _ _ nothing-taken ∙ g .leads));
+        word = λ o k.
+            let w = i * row-words + o in
+            let late = leb past-place (w % row-words) in
+            word-left h s t w (omega arith)
+            ∙ cond-zero (eqb (w / row-words) s) refl
+            (cond-second (t (w / row-words) && late) _ _
+            (λ u. nothing-taken (subst (λ (x : ℕ). T (t x)) (row-of i o k) (T-left (t (w / row-words)) late u)))
+            ∙ g .word o k);
+        struck = λ x k.
+            ap (λ (n : ℕ). bit n i) (leads-left h s t x k)
+            ∙ cond-unmarked (eqb x s) 0 _ i (bit-zero i)
+            (without-unmarked _ s i
+            (cond-unmarked (t x) _ _ i (or-unmarked (leads-at h x) _ i (g .struck x k) (and-unmarked (leads-at h s) _ i (g .struck s q))) (g .struck x k)));
+      }
+
+  blank-left : (t : ℕ → Bool) → ((i : ℕ) → T (t i) → T (open-at h i)) → Blank (left-at h t s)
+  blank-left t only-open =
+      record {
+        row = λ i p c.
+            ⊎-elim
+            (λ e. subst (λ (x : ℕ). BlankRow (left-at h t s) x) (sym e) (left-row t))
+            (λ ne.
+            let z : open-at h i ≡ false = is-false (λ o. false-is (sym (open-left h s t i) ∙ c) (T-and (open-at h i) (not (eqb i s)) o (not-test (eq-test i s) .shows ne))) in
+            kept-row t i p (b .row i p z) (λ u. false-is z (only-open i u)))
+            (answer (eq-test i s));
+      }
+
+blank-moves : {h : Held} → Blank h → Moves Blank h
+blank-moves b =
+    record {
+      opens = λ s q f small. blank-opened b s q;
+      steps = λ k s c q o real. blank-stepped b s q k c o real;
+      leaves = λ t s q o only-open. blank-left b s q t only-open;
+    }
+
+-- every request keeps the rows blank that are not open
+pub blank-after : {h : Held} → Blank h → (r : Request) → Blank (after h r)
+blank-after {h} b r = kept-after Blank h b (blank-moves b) r
+
+-- every row of a fresh state is blank
+pub blank-fresh : (first : ℕ) → Blank (fresh-held first)
+unfolding fresh-held number-at leads-at word-at
+blank-fresh first =
+    record {
+      row = λ i p c.
+          record {
+            number = read-tab most-open (λ i. 0) i p;
+            leads = read-tab most-open (λ i. 0) i p;
+            word = λ o q. read-tab all-words (λ w. 0) (i * row-words + o) (omega arith);
+            struck = λ x q. ap (λ (n : ℕ). bit n i) (read-tab most-open (λ i. 0) x q) ∙ bit-zero i;
+          };
+    }
+
+-- from a fresh state, through any list of requests, every row that is not open is blank
+pub blank-rows : (first : ℕ) (rs : List Request) → Blank (after-all (fresh-held first) rs)
+blank-rows first rs = kept-after-all Blank (λ h b. blank-moves b) (fresh-held first) (blank-fresh first) rs
+
+-- ---- which slot is taken, and when nothing changes
+
+-- a granted open goes into the lowest free slot, and changes the state as an open there does
+pub lowest-slot : (h : Held) (r : Request) → code-of (facts h) r ≡ 0 → want (r .kind) ≡ an-open
+    → (s : ℕ) × LowestOf (bit (h .free)) most-open s × (after h r ≡ opened-at h s)
+unfolding code-of tests facts open-slots open-at free-slot moved after
+lowest-slot h r z e =
+    let w : first-of (tests (facts h) an-open (r .job) (r .cell)) ≡ 0 = subst (λ (x : Want). first-of (tests (facts h) x (r .job) (r .cell)) ≡ 0) e (passed (not (eqb (r .byte1) 0)) 0 _ z .1) in
+    let few = passed (leb most-open (length (open-slots h))) 4 0 (passed (leb numbers (h .next)) 5 _ w .1) .0 in
+    let f = lowest-passing (bit (h .free)) most-open (below-bound most-open (length (open-slots h)) few) in (
+      f .0,
+      f .1,
+      ap (λ (n : ℕ). cond (eqb n 0) (moved h (want (r .kind)) (r .job) (r .cell)) h) z
+          ∙ ap (λ (x : Want). moved h x (r .job) (r .cell)) e
+          ∙ ap (λ (l : List ℕ). with-slot (first-in l) (λ s. opened-at h s) h) (f .2 .1),
+    )
+
+-- a refusal leaves the state as it was
+pub refusal-held : (h : Held) (r : Request) → (code-of (facts h) r ≡ 0 → ⊥) → after h r ≡ h
+unfolding after
+refusal-held h r f = ap (λ (b : Bool). cond b (moved h (want (r .kind)) (r .job) (r .cell)) h) (test-false (eq-test (code-of (facts h) r) 0) f)

@@ -1,0 +1,149 @@
+-- A moved state read slot by slot and word by word, and the three moves that a request can make: an open into a free slot, a step of an open slot, an
+-- open slot left by an end or an abandon. What the three keep, every request keeps (`kept-after`), whatever the state holds.
+-- Assumes nothing.
+use mathlib.Core.Path.{_≡_, refl, ap, _∙_}
+use mathlib.Core.Bool.{Bool, true, false, not, _&&_, _||_, cond}
+use mathlib.Core.Option.{Option, none, some}
+use mathlib.Core.List.{List, [], _∷_}
+use Prim.Native.Nat.{ℕ, suc, _+_, _-_, _*_, _/_, _%_, _^_, _<_}
+use native.Mathlib.Omega.{arith}
+use lib.Bits.{bitOr, bitAnd}
+use lib.Dec.{T, leb, eqb}
+use lib.ListN.{getD}
+use Rattle.graph.specs.Decide.{by-test, eq-test}
+use Rattle.graph.specs.Lists.{_∈_, here, only, only-from}
+use Rattle.marks.specs.Marks.{bit, mask-of, without, tab, upto}
+use Rattle.history.specs.Events.{Kind}
+use Rattle.history.specs.Replies.{cells, most-open, numbers, Request, Want, an-open, a-step, an-end, an-abandon, nothing, want, first-of, tests, code-of}
+use Rattle.history.specs.Granted.{below-bound, passed}
+use Rattle.held.specs.Held.{Held, word-marks, row-words, past-place, all-words, number-at, leads-at, word-at, open-at, open-slots, set-place, touched, first-in, slot-of, facts, opened-at, stepped-at, left-at, ended-at, abandoned-at, with-slot, free-slot, moved, after, after-all}
+use Rattle.marks.specs.MarkLaws.{getD-tab, upto-from, bit-pow, bit-or, bit-without}
+use Rattle.held.specs.MoreMarks.{T-left}
+
+-- ---- what a move leaves
+
+-- the rule of a table, read off it
+pub read-tab : (n : ℕ) (f : ℕ → ℕ) (i : ℕ) → i < n → getD (tab n f) i 0 ≡ f i
+read-tab n f i q = getD-tab n f i 0 q
+
+-- word w of the sets, counted from the first of the first row
+abbrev pub nth-word : Held → ℕ → ℕ
+nth-word h w = getD (h .sets) w 0
+
+-- what the moves make of it
+module _ (h : Held) (s w : ℕ) where
+  abbrev pub opened-word : ℕ
+  opened-word = cond (eqb (w / row-words) s) 0 (nth-word h w)
+
+  abbrev pub stepped-word : Kind → ℕ → ℕ
+  stepped-word k c = cond (eqb w (s * row-words + (set-place k + c / word-marks))) (bitOr (nth-word h w) (2 ^ (c % word-marks))) (nth-word h w)
+
+  abbrev pub left-word : (ℕ → Bool) → ℕ
+  left-word t =
+      let i = w / row-words in
+      let o = w % row-words in
+      cond (eqb i s) 0 (cond (t i && leb past-place o) (bitOr (nth-word h w) (bitOr (word-at h s (o - past-place)) (word-at h s o))) (nth-word h w))
+
+module _ (h : Held) (s : ℕ) where
+  -- number, leads and words after an open, a step, a leave. A step leaves the numbers as they are
+  pub number-opened : (i : ℕ) → i < most-open → number-at (opened-at h s) i ≡ cond (eqb i s) (h .next) (number-at h i)
+  unfolding number-at opened-at
+  number-opened = read-tab most-open _
+
+  pub leads-opened : (i : ℕ) → i < most-open → leads-at (opened-at h s) i ≡ cond (eqb i s) 0 (without (leads-at h i) s)
+  unfolding leads-at opened-at
+  leads-opened = read-tab most-open _
+
+  pub word-opened : (w : ℕ) → w < all-words → nth-word (opened-at h s) w ≡ opened-word h s w
+  unfolding opened-at
+  word-opened = read-tab all-words _
+
+  pub leads-stepped : (k : Kind) (c i : ℕ) → i < most-open
+      → leads-at (stepped-at h k s c) i ≡ cond (open-at h i && touched h k s c i) (bitOr (leads-at h i) (2 ^ s)) (leads-at h i)
+  unfolding leads-at stepped-at
+  leads-stepped k c = read-tab most-open _
+
+  pub word-stepped : (k : Kind) (c w : ℕ) → w < all-words → nth-word (stepped-at h k s c) w ≡ stepped-word h s w k c
+  unfolding stepped-at
+  word-stepped k c = read-tab all-words _
+
+  pub number-left : (t : ℕ → Bool) (i : ℕ) → i < most-open → number-at (left-at h t s) i ≡ cond (eqb i s) 0 (number-at h i)
+  unfolding number-at left-at
+  number-left t = read-tab most-open _
+
+  pub leads-left : (t : ℕ → Bool) (i : ℕ) → i < most-open
+      → leads-at (left-at h t s) i
+      ≡ cond (eqb i s) 0 (without (cond (t i) (bitOr (leads-at h i) (bitAnd (leads-at h s) (mask-of most-open (open-at h)))) (leads-at h i)) s)
+  unfolding leads-at left-at
+  leads-left t = read-tab most-open _
+
+  pub word-left : (t : ℕ → Bool) (w : ℕ) → w < all-words → nth-word (left-at h t s) w ≡ left-word h s w t
+  unfolding left-at
+  word-left t = read-tab all-words _
+
+  -- an open and a leave change which slots are open at s alone
+  pub open-opened : (i : ℕ) → open-at (opened-at h s) i ≡ open-at h i || eqb i s
+  unfolding open-at opened-at
+  open-opened i = ap not (bit-without (h .free) s i) ∙ go (bit (h .free) i) (eqb i s)
+    where
+      go : (a b : Bool) → not (a && not b) ≡ not a || b
+      go true true = refl
+      go true false = refl
+      go false b = refl
+
+  pub open-left : (t : ℕ → Bool) (i : ℕ) → open-at (left-at h t s) i ≡ open-at h i && not (eqb i s)
+  unfolding open-at left-at
+  open-left t i = ap not (bit-or (h .free) (2 ^ s) i ∙ ap (λ (b : Bool). bit (h .free) i || b) (bit-pow s i)) ∙ go (bit (h .free) i) (eqb i s)
+    where
+      go : (a b : Bool) → not (a || b) ≡ not a && not b
+      go true b = refl
+      go false b = refl
+
+-- ---- the moves a request can make
+
+-- each of the three keeps P. Who takes over from a slot that is left is open
+pub record Moves (P : Held → Type 0) (h : Held) : Type 0 where
+  pub opens : (s : ℕ) → s < most-open → T (bit (h .free) s) → h .next < numbers → P (opened-at h s)
+  pub steps : (k : Kind) (s c : ℕ) → s < most-open → T (open-at h s) → c < cells → P (stepped-at h k s c)
+  pub leaves : (t : ℕ → Bool) (s : ℕ) → s < most-open → T (open-at h s) → ((i : ℕ) → T (t i) → T (open-at h i)) → P (left-at h t s)
+
+-- the first of a list, where there is one, is a member
+first-cases : (P : Option ℕ → Type 0) (l : List ℕ) → P none → ((s : ℕ) → s ∈ l → P (some s)) → P (first-in l)
+first-cases P [] n f = n
+first-cases P (s ∷ l) n f = f s here
+
+module _ (P : Held → Type 0) (h : Held) (p : P h) (m : Moves P h) where
+  -- what is done at the slot that a number means
+  kept-at : (j : ℕ) (f : ℕ → Held) → ((s : ℕ) → s < most-open → T (open-at h s) → P (f s)) → P (with-slot (slot-of h j) f h)
+  unfolding slot-of open-slots
+  kept-at j f g =
+      first-cases (λ o. P (with-slot o f h)) (only (λ i. eqb (number-at h i) j) (only (open-at h) (upto most-open))) p
+      (λ s n.
+      let r = only-from (open-at h) (upto most-open) (only-from (λ i. eqb (number-at h i) j) (only (open-at h) (upto most-open)) n .0) in
+      g s (upto-from most-open (r .0)) (r .1))
+
+  -- what a granted request does
+  kept-moved : (w : Want) (j c : ℕ) → first-of (tests (facts h) w j c) ≡ 0 → P (moved h w j c)
+  unfolding moved tests facts free-slot ended-at abandoned-at
+  kept-moved an-open j c z =
+      first-cases (λ o. P (with-slot o (λ s. opened-at h s) h)) (only (bit (h .free)) (upto most-open)) p
+      (λ s n.
+      let r = only-from (bit (h .free)) (upto most-open) n in
+      m .opens s (upto-from most-open (r .0)) (r .1) (below-bound numbers (h .next) (passed (leb numbers (h .next)) 5 _ z .0)))
+  kept-moved (a-step k) j c z = kept-at j (λ s. stepped-at h k s c) (λ s q o. m .steps k s c q o (below-bound cells c (passed (leb cells c) 1 _ z .0)))
+  kept-moved an-end j c z =
+      kept-at j (λ s. left-at h _ s) (λ s q o. m .leaves _ s q o (λ i t. T-left (open-at h i) (not (eqb i s) && bit (leads-at h i) s) t))
+  kept-moved an-abandon j c z = kept-at j (λ s. left-at h (λ i. false) s) (λ s q o. m .leaves (λ i. false) s q o (λ i t. absurd t))
+  kept-moved nothing j c z = p
+
+  -- a request makes one of the moves, or none
+  pub kept-after : (r : Request) → P (after h r)
+  unfolding after code-of
+  kept-after r =
+      by-test (λ b. P (cond b (moved h (want (r .kind)) (r .job) (r .cell)) h)) (eq-test (code-of (facts h) r) 0)
+      (λ z. kept-moved (want (r .kind)) (r .job) (r .cell) (passed (not (eqb (r .byte1) 0)) 0 _ z .1)) (λ z. p)
+
+-- and so a list of them
+pub kept-after-all : (P : Held → Type 0) → ((h : Held) → P h → Moves P h) → (h : Held) → P h → (rs : List Request) → P (after-all h rs)
+kept-after-all P m h p [] = p
+kept-after-all P m h p (r ∷ rs) = kept-after-all P m (after h r) (kept-after P h p (m h p) r) rs
