@@ -69,7 +69,8 @@ module _ (l : List ℕ) (c i : ℕ) where
       go true = marks-in (12 + c / 64) (8 + c / 64) ∙ or-comm (mark-in (12 + c / 64)) (mark-in (8 + c / 64))
       go false = refl
 
-  clash-bit : (w : Bool) → bit (clash-word l w (c / 64) i) (c % 64) ≡ meets (own-at (sets-only l) i) (kind-of w) c || meets (past-at (sets-only l) i) (kind-of w) c
+  clash-bit : (w : Bool)
+      → bit (clash-word l w (c / 64) i) (c % 64) ≡ meets (own-at (sets-only l) i) (kind-of w) c || meets (past-at (sets-only l) i) (kind-of w) c
   clash-bit w = go w ∙ sym (ap₂ _||_ (own-is w) (past-is w))
     where
       own-or-past : Bool → Bool
@@ -83,7 +84,8 @@ module _ (l : List ℕ) (c i : ℕ) where
 
       go : (w : Bool) → bit (clash-word l w (c / 64) i) (c % 64) ≡ own-or-past w
       go true =
-          bit-or (bitOr (getD l (i * 16 + (4 + c / 64)) 0) (getD l (i * 16 + (12 + c / 64)) 0)) (bitOr (getD l (i * 16 + c / 64) 0) (getD l (i * 16 + (8 + c / 64)) 0)) (c % 64)
+          bit-or (bitOr (getD l (i * 16 + (4 + c / 64)) 0) (getD l (i * 16 + (12 + c / 64)) 0))
+          (bitOr (getD l (i * 16 + c / 64) 0) (getD l (i * 16 + (8 + c / 64)) 0)) (c % 64)
           ∙ ap₂ _||_ (marks-in (4 + c / 64) (12 + c / 64)) (marks-in (c / 64) (8 + c / 64))
           ∙ by-kind (mark-in (4 + c / 64)) (mark-in (12 + c / 64)) (mark-in (c / 64)) (mark-in (8 + c / 64))
       go false = marks-in (4 + c / 64) (12 + c / 64)
@@ -128,13 +130,18 @@ module _ {from : ℕ} {f : ℕ → Bool} where
       record {
         fits = more-fits (g .fits) h;
         marks =
-            visit-turn (g .marks) ne
-            (λ k q e o. bit-more found (trailingZeros 32 todo) k h ∙ ap (λ (b : Bool). bit found k || b) (test-true (eq-test k (trailingZeros 32 todo)) e) ∙ or-true (bit found k) ∙ sym (ap f e ∙ t))
-            (λ k q d. bit-more found (trailingZeros 32 todo) k h ∙ ap (λ (b : Bool). bit found k || b) (test-false (eq-test k (trailingZeros 32 todo)) d) ∙ or-false (bit found k));
+            visit-turn (g .marks) ne (λ k q e o. more k (test-true (eq-test k i) e) ∙ or-true (bit found k) ∙ sym (ap f e ∙ t))
+            (λ k q d. more k (test-false (eq-test k i) d) ∙ or-false (bit found k));
       }
     where
-      h : trailingZeros 32 todo < 32
+      i : ℕ
+      i = trailingZeros 32 todo
+
+      h : i < 32
       h = left-inside (g .marks .left) ne
+
+      more : (k : ℕ) {b : Bool} → eqb k i ≡ b → bit (bitOr found (1 * 2 ^ i % 2 ^ 32)) k ≡ bit found k || b
+      more k e = bit-more found i k h ∙ ap (λ (b : Bool). bit found k || b) e
 
   pub gather-out : {todo found : ℕ} → Gathering from f todo found → (todo ≡ 0 → ⊥) → f (trailingZeros 32 todo) ≡ false
       → Gathering from f (bitAnd todo (todo - 1)) found
@@ -165,7 +172,8 @@ pub touched-mask : {free s p m todo found r : ℕ} (l : List ℕ) (w : Bool) (c 
     → cond b (bitOr found (1 * 2 ^ s % 2 ^ 32)) found ≡ mask-of 32 (touches free l w s c)
 unfolding touched
 touched-mask {free} {s} {p} {m} {todo} {found} {r} l w c b hf hs here ep em g e er eb =
-    masked 32 (λ i. not (bit free i) && ((not (eqb i s) && own i) || past i)) (fits b) (λ k q. with-own b k ∙ ap₂ (λ (x y : Bool). x || y && eqb k s) (gathered k q) itself ∙ agree k)
+    masked 32 (λ i. not (bit free i) && ((not (eqb i s) && own i) || past i)) (fits b)
+    (λ k q. with-own b k ∙ ap₂ (λ (x y : Bool). x || y && eqb k s) (gathered k q) itself ∙ agree k)
   where
     own : ℕ → Bool
     own i = meets (own-at (sets-only l) i) (kind-of w) c
@@ -191,11 +199,14 @@ touched-mask {free} {s} {p} {m} {todo} {found} {r} l w c b hf hs here ep em g e 
     itself =
         sym eb ∙ ap₂ tests (er ∙ ap (λ (x : ℕ). past-word l w x s) ep) em ∙ tests-bit (past-word l w (c / 64) s) (c % 64) ∙ past-bit l c s w
 
-    agree : (k : ℕ) → cond (not (bit free k) && not (eqb k s)) (own k || past k) false || past s && eqb k s ≡ not (bit free k) && ((not (eqb k s) && own k) || past k)
+    agree : (k : ℕ)
+        → cond (not (bit free k) && not (eqb k s)) (own k || past k) false || past s && eqb k s ≡ not (bit free k) && ((not (eqb k s) && own k) || past k)
     agree k =
-        by-test (λ (t : Bool). cond (not (bit free k) && not t) (own k || past k) false || past s && t ≡ not (bit free k) && ((not t && own k) || past k)) (eq-test k s)
+        by-test (λ (t : Bool). cond (not (bit free k) && not t) (own k || past k) false || past s && t ≡ not (bit free k) && ((not t && own k) || past k))
+        (eq-test k s)
         (λ i. let o : not (bit free k) ≡ true = ap (λ (x : ℕ). not (bit free x)) i ∙ ap not here in
-        ap (λ (t : Bool). cond (t && false) (own k || past k) false || past s && true) o ∙ and-true (past s) ∙ ap past (sym i) ∙ ap (λ (t : Bool). t && past k) (sym o))
+        ap (λ (t : Bool). cond (t && false) (own k || past k) false || past s && true) o ∙ and-true (past s) ∙ ap past (sym i)
+        ∙ ap (λ (t : Bool). t && past k) (sym o))
         (λ d. go (not (bit free k)) (own k || past k) (past s))
       where
         go : (t x y : Bool) → cond (t && true) x false || y && false ≡ t && x

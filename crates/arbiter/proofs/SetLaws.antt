@@ -103,10 +103,10 @@ abbrev put : List ℕ → ℕ → List ℕ → ℕ → ℕ
 put l at vs w = cond (leb at w && leb w (at + 3)) (getD vs (w - at) 0) (getD l w 0)
 
 -- They gain the mark c, which goes into the word at p, word c / 64 of them.
-pub marked-set : {l ws vs : List ℕ} {at p : ℕ} (m c : ℕ) → c < 256 → Part l at ws → vs ≡ with-mark 64 ws c → p ≡ at + c / 64
+pub marked-set : {ws vs : List ℕ} {p : ℕ} (m : ℕ) (l : List ℕ) (at c : ℕ) → c < 256 → Part l at ws → vs ≡ with-mark 64 ws c → p ≡ at + c / 64
     → tab m (put l at vs) ≡ tab m (λ w. cond (eqb w p) (bitOr (getD l w 0) (2 ^ (c % 64))) (getD l w 0))
 unfolding with-mark
-marked-set {l} {ws} {vs} {at} {p} m c h t new place =
+marked-set {ws} {vs} {p} m l at c h t new place =
     tab-same m _ _ (λ w q. by-test (λ (b : Bool). put l at vs w ≡ cond b (bitOr (getD l w 0) (2 ^ (c % 64))) (getD l w 0)) (eq-test w p) (here w) (other w))
   where
     x : ℕ

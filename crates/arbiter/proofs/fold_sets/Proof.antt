@@ -1,9 +1,13 @@
 -- `arbiter::fold_sets` meets its contract. The loop's invariant: the rows of `from` that are not left in `todo` have taken over, and no other word has
 -- changed. The measure is `todo`. Assumes nothing.
+use mathlib.Core.Path.{_≡_}
 use native.Mathlib.Omega.{arith}
+use lib.Count.{trailingZeros}
+use lib.Dec.{eqb}
 use borrow.Author.Needs.{needs}
+use Rattle.marks.specs.Marks.{tab}
 use Rattle.arbiter.proofs.MaskLaws.{left-less, left-inside}
-use Rattle.arbiter.proofs.SetLaws.{Folding, fold-start, fold-other, fold-turn, fold-end}
+use Rattle.arbiter.proofs.SetLaws.{folded, Folding, fold-start, fold-other, fold-turn, fold-end}
 use Rattle.arbiter.proofs.fold_sets.Statement.{statement}
 use Rattle.arbiter.proofs.fold_sets.Tie as tie
 
@@ -23,10 +27,17 @@ take-over-requires c κs =
     let pre = c .before .before .before .before .before .pre in
     (left-inside (f .rows .left) ne, pre .0, fold-other f ne (pre .1))
 
+-- What `take_over` ensures, at the loop's own values: handed to a law as it stands, antt would compare two tables of 512 by computing them.
+after : (c : tie.After-take-over Inv-loop μ-loop)
+    → c .take-over .last .0
+    ≡ tab 512 (folded (λ k. eqb k (trailingZeros 32 (c .before .before .before .loop .todo))) (c .before .before .before .loop .sets)
+    (c .before .before .before .before .before .before .args .slot .0))
+after c = c .take-over .ensures
+
 loop-again : tie.Need-loop-again Inv-loop μ-loop
 loop-again c =
     let pre = c .before .before .before .before .before .before .pre in
-    fold-turn (c .before .before .before .loop .inv) (c .before .before .loop-test .taken) (omega (arith, pre .0)) (pre .1) (c .take-over .ensures)
+    fold-turn (c .before .before .before .loop .inv) (c .before .before .loop-test .taken) (omega (arith, pre .0)) (pre .1) (after c)
 
 pub fold-sets-spec : {M : Type 1} → statement M
 fold-sets-spec =

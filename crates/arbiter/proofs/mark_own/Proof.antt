@@ -21,7 +21,7 @@ returns : tie.Need-returns
 returns c =
     let j = c .before .before .before .before .before in
     c .store .ensures
-    ∙ marked-set 512 (j .before .before .args .cell .0) (search needs)
+    ∙ marked-set 512 (j .before .before .args .sets .now) (j .if1 .at) (j .before .before .args .cell .0) (search needs)
     (record { four = search needs; from = c .before .before .before .load .ensures }) (c .before .before .with .ensures) (placed j .1)
 
 pub mark-own-spec : {M : Type 1} → statement M
