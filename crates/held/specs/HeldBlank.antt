@@ -16,12 +16,12 @@ use Rattle.graph.specs.Decide.{not-test, test-false, eq-test, answer, T-and, is
 use Rattle.marks.specs.Marks.{bit, mask-of}
 use Rattle.history.specs.Events.{Kind, read, write}
 use Rattle.history.specs.Replies.{cells, most-open, numbers, Request, Want, an-open, want, first-of, tests, code-of}
-use Rattle.history.specs.Granted.{below-bound}
+use Rattle.history.specs.Granted.{below-bound, passed}
 use Rattle.held.specs.Held.{Held, word-marks, row-words, past-place, all-words, fresh-held, number-at, leads-at, word-at, open-at, open-slots, set-place, touched, first-in, facts, opened-at, stepped-at, left-at, with-slot, free-slot, moved, after, after-all}
 use Rattle.marks.specs.MarkLaws.{length-tab, bit-zero, bit-pow, mask-lt}
 use Rattle.held.specs.MoreMarks.{T-left, or-unmarked, and-unmarked, without-unmarked, without-struck, without-zero, without-below, cond-first, cond-second, cond-below, cond-zero, cond-unmarked, LowestOf, lowest-passing}
-use Rattle.history.specs.Granted.{passed}
-use Rattle.held.specs.HeldMoves.{read-tab, nth-word, opened-word, stepped-word, left-word, number-opened, leads-opened, word-opened, leads-stepped, word-stepped, number-left, leads-left, word-left, open-opened, open-left, Moves, kept-after, kept-after-all}
+use Rattle.held.specs.HeldLaws.{opened-open-at, left-open-at}
+use Rattle.held.specs.HeldMoves.{read-tab, nth-word, opened-word, stepped-word, left-word, number-opened, leads-opened, word-opened, leads-stepped, word-stepped, number-left, leads-left, word-left, Moves, kept-after, kept-after-all}
 
 -- ---- ranges
 
@@ -174,7 +174,7 @@ module _ {h : Held} (b : Blank h) (s : ℕ) (q : s < most-open) where
   blank-opened =
       record {
         row = λ i p c.
-            let z = both-false (open-at h i) (eqb i s) (sym (open-opened h s i) ∙ c) in
+            let z = both-false (open-at h i) (eqb i s) (sym (opened-open-at h s i) ∙ c) in
             let g = b .row i p (z .0) in
             record {
               number = number-opened h s i p ∙ ap (λ (b : Bool). cond b (h .next) (number-at h i)) (z .1) ∙ g .number;
@@ -249,7 +249,7 @@ module _ {h : Held} (b : Blank h) (s : ℕ) (q : s < most-open) where
             ⊎-elim
             (λ e. subst (λ (x : ℕ). BlankRow (left-at h t s) x) (sym e) (left-row t))
             (λ ne.
-            let z : open-at h i ≡ false = is-false (λ o. false-is (sym (open-left h s t i) ∙ c) (T-and (open-at h i) (not (eqb i s)) o (not-test (eq-test i s) .shows ne))) in
+            let z : open-at h i ≡ false = is-false (λ o. false-is (sym (left-open-at h t s i) ∙ c) (T-and (open-at h i) (not (eqb i s)) o (not-test (eq-test i s) .shows ne))) in
             kept-row t i p (b .row i p z) (λ u. false-is z (only-open i u)))
             (answer (eq-test i s));
       }

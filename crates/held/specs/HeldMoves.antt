@@ -1,12 +1,11 @@
 -- A moved state read slot by slot and word by word, and the three moves that a request can make: an open into a free slot, a step of an open slot, an
 -- open slot left by an end or an abandon. What the three keep, every request keeps (`kept-after`), whatever the state holds.
 -- Assumes nothing.
-use mathlib.Core.Path.{_≡_, refl, ap, _∙_}
-use mathlib.Core.Bool.{Bool, true, false, not, _&&_, _||_, cond}
+use mathlib.Core.Path.{_≡_}
+use mathlib.Core.Bool.{Bool, false, not, _&&_, cond}
 use mathlib.Core.Option.{Option, none, some}
 use mathlib.Core.List.{List, [], _∷_}
-use Prim.Native.Nat.{ℕ, suc, _+_, _-_, _*_, _/_, _%_, _^_, _<_}
-use native.Mathlib.Omega.{arith}
+use Prim.Native.Nat.{ℕ, _+_, _-_, _*_, _/_, _%_, _^_, _<_}
 use lib.Bits.{bitOr, bitAnd}
 use lib.Dec.{T, leb, eqb}
 use lib.ListN.{getD}
@@ -17,7 +16,7 @@ use Rattle.history.specs.Events.{Kind}
 use Rattle.history.specs.Replies.{cells, most-open, numbers, Request, Want, an-open, a-step, an-end, an-abandon, nothing, want, first-of, tests, code-of}
 use Rattle.history.specs.Granted.{below-bound, passed}
 use Rattle.held.specs.Held.{Held, word-marks, row-words, past-place, all-words, number-at, leads-at, word-at, open-at, open-slots, set-place, touched, first-in, slot-of, facts, opened-at, stepped-at, left-at, ended-at, abandoned-at, with-slot, free-slot, moved, after, after-all}
-use Rattle.marks.specs.MarkLaws.{getD-tab, upto-from, bit-pow, bit-or, bit-without}
+use Rattle.marks.specs.MarkLaws.{getD-tab, upto-from}
 use Rattle.held.specs.MoreMarks.{T-left}
 
 -- ---- what a move leaves
@@ -80,24 +79,6 @@ module _ (h : Held) (s : ℕ) where
   pub word-left : (t : ℕ → Bool) (w : ℕ) → w < all-words → nth-word (left-at h t s) w ≡ left-word h s w t
   unfolding left-at
   word-left t = read-tab all-words _
-
-  -- an open and a leave change which slots are open at s alone
-  pub open-opened : (i : ℕ) → open-at (opened-at h s) i ≡ open-at h i || eqb i s
-  unfolding open-at opened-at
-  open-opened i = ap not (bit-without (h .free) s i) ∙ go (bit (h .free) i) (eqb i s)
-    where
-      go : (a b : Bool) → not (a && not b) ≡ not a || b
-      go true true = refl
-      go true false = refl
-      go false b = refl
-
-  pub open-left : (t : ℕ → Bool) (i : ℕ) → open-at (left-at h t s) i ≡ open-at h i && not (eqb i s)
-  unfolding open-at left-at
-  open-left t i = ap not (bit-or (h .free) (2 ^ s) i ∙ ap (λ (b : Bool). bit (h .free) i || b) (bit-pow s i)) ∙ go (bit (h .free) i) (eqb i s)
-    where
-      go : (a b : Bool) → not (a || b) ≡ not a && not b
-      go true b = refl
-      go false b = refl
 
 -- ---- the moves a request can make
 

@@ -1,15 +1,15 @@
--- A log that is read without a fault is in turn (`read-turns`), and the log of a history in turn, within the sizes, is read back as that history
+-- A log that is read without a fault is in turn (`read-turns`); one that is refused has its lowest faulty record at the place reported (`faults`); the log of a history in turn, within the sizes, is read back as that history
 -- (`read-back`); so is the log of what was granted (`granted-read`).
 -- Assumes nothing.
-use mathlib.Core.Path.{_≡_, refl, sym, ap, ap₂, _∙_, subst}
-use mathlib.Core.Logic.{inl, inr, ⊎-elim}
+use mathlib.Core.Path.{_≡_, refl, sym, ap, ap₂, _∙_, subst, subst₂}
+use mathlib.Core.Logic.{_⊎_, inl, inr, ⊎-elim}
 use mathlib.Core.Bool.{Bool, true, false, not, _||_, cond}
 use mathlib.Core.List.{List, [], _∷_, _++_, append-nil, append-assoc, Memᴰ·append-left, Memᴰ·append-right}
 use Prim.Native.Nat.{ℕ, zero, suc, _+_, _*_, _/_, _%_, _≤_, _<_}
 use native.Mathlib.Omega.{arith}
 use lib.Dec.{T, ltb, eqb}
 use lib.ListN.{length, length-append}
-use Rattle.graph.specs.Decide.{or-test, not-test, eq-test, le-test, lt-test, own-test, every-of, every-test, answer, test-true, test-false, is-false}
+use Rattle.graph.specs.Decide.{or-test, not-test, eq-test, le-test, lt-test, own-test, every-of, every-test, answer, test-true, test-false, is-false, Decides, false-is}
 use Rattle.graph.specs.Lists.{_∈_, here}
 use Rattle.history.specs.Events.{read, write, Event, opens, steps, ends, abandons, History, gather, opened-by, has, opened, open-now, wrote}
 use Rattle.history.specs.Replies.{cells, numbers, Request, Want, an-open, a-step, an-end, an-abandon, nothing, want, event-of, history-of}
@@ -64,6 +64,71 @@ read-turns bytes h e = go (not (eqb (length bytes % record-bytes) 0) || ltb most
     go : (b : Bool) → cond b (faulty 11 0) (read-from [] zero (records bytes)) ≡ events h → Turns h
     go true q = absurd (let z : _≡_ {A = ℕ} 0 1 = cc in omega arith)
     go false q = read-turns-from [] zero (records bytes) h tt q
+
+-- ---- where the fault is
+
+-- the lowest faulty record: those before it are read as the events k without a fault, and after them it has the fault c, at its place
+pub record FaultAt (h : History) (n : ℕ) (rs : List Request) (c p : ℕ) : Type 0 where
+  pub front : List Request
+  pub at : Request
+  pub back : List Request
+  pub before : History
+  pub split : rs ≡ front ++ at ∷ back
+  pub place : p ≡ n + length front
+  pub good : read-from h n front ≡ events before
+  pub fault : fault-of before at ≡ c
+  pub is-fault : c ≡ 0 → ⊥
+
+fault-from : (h : History) (n : ℕ) (rs : List Request) (c p : ℕ) → read-from h n rs ≡ faulty c p → FaultAt h n rs c p
+fault-from h n [] c p e = absurd (let z : _≡_ {A = ℕ} 0 1 = cc in omega arith)
+fault-from h n (r ∷ rs) c p e = go (eqb (fault-of h r) 0) refl e (fault-from next (suc n) rs c p)
+  where
+    next : History
+    next = h ++ event-of (r .job) (want (r .kind)) (r .job) (r .cell)
+
+    go : (b : Bool) → eqb (fault-of h r) 0 ≡ b → cond b (read-from next (suc n) rs) (faulty (fault-of h r) n) ≡ faulty c p
+        → (read-from next (suc n) rs ≡ faulty c p → FaultAt next (suc n) rs c p) → FaultAt h n (r ∷ rs) c p
+    go true q x f =
+        let a = f x in
+        record {
+          front = r ∷ a .front;
+          at = a .at;
+          back = a .back;
+          before = a .before;
+          split = ap (λ (l : List Request). r ∷ l) (a .split);
+          place = let y = a .place in omega arith;
+          good = ap (λ (b : Bool). cond b (read-from next (suc n) (a .front)) (faulty (fault-of h r) n)) q ∙ a .good;
+          fault = a .fault;
+          is-fault = a .is-fault;
+        }
+    go false q x f =
+        let y : fault-of h r ≡ c = cc in
+        record {
+          front = [];
+          at = r;
+          back = rs;
+          before = h;
+          split = refl;
+          place = let w : n ≡ p = cc in omega arith;
+          good = refl;
+          fault = y;
+          is-fault = λ z. false-is q (eq-test (fault-of h r) 0 .shows (y ∙ z));
+        }
+
+-- a log that is refused has the wrong length, code 11 at place 0, or has the right length and a lowest faulty record
+pub data Fault (bytes : List ℕ) : ℕ → ℕ → Type 0 where
+  of-length : ((length bytes % record-bytes ≡ 0 → ⊥) ⊎ (most-bytes < length bytes)) → Fault bytes 11 0
+  of-record : {c p : ℕ} → length bytes % record-bytes ≡ 0 → length bytes ≤ most-bytes → FaultAt [] zero (records bytes) c p → Fault bytes c p
+
+pub faults : (bytes : List ℕ) (c p : ℕ) → read-log bytes ≡ faulty c p → Fault bytes c p
+unfolding read-log
+faults bytes c p e = go (not (eqb (length bytes % record-bytes) 0) || ltb most-bytes (length bytes)) (or-test (not-test (eq-test (length bytes % record-bytes) 0)) (lt-test most-bytes (length bytes))) e
+  where
+    go : (b : Bool) → Decides b ((length bytes % record-bytes ≡ 0 → ⊥) ⊎ (most-bytes < length bytes)) → cond b (faulty 11 0) (read-from [] zero (records bytes)) ≡ faulty c p → Fault bytes c p
+    go true d x = subst₂ (Fault bytes) (let y : 11 ≡ c = cc in y) (let y : 0 ≡ p = cc in y) (of-length (d .holds tt))
+    go false d x =
+        of-record (⊎-elim (λ y. y) (λ f. absurd (d .shows (inl f))) (answer (eq-test (length bytes % record-bytes) 0)))
+        (⊎-elim (λ l. absurd (d .shows (inr l))) (λ f. let g : (most-bytes < length bytes) → ⊥ = f in omega arith) (answer (lt-test most-bytes (length bytes)))) (fault-from [] zero (records bytes) c p x)
 
 -- ---- the log of a history is read back
 

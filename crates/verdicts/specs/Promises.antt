@@ -16,10 +16,10 @@ use Rattle.history.specs.Orders.{layout, Accepted}
 use Rattle.history.specs.Run.{Program, last-write}
 use Rattle.history.specs.OrderLaws.{accepted-no-circle}
 use Rattle.history.specs.Promises.{AsTheLog, one-at-a-time, same-reads, same-ends, granted-order}
-use Rattle.verdicts.specs.Logs.{Reading, events, most-jobs, read-log, log-of}
+use Rattle.verdicts.specs.Logs.{Reading, faulty, events, most-jobs, read-log, log-of}
 use Rattle.verdicts.specs.Verdicts.{check, Listed, listed, list-of, list-order}
-use Rattle.verdicts.specs.LogLaws.{read-turns, read-back, Sized, granted-read}
-use Rattle.verdicts.specs.VerdictLaws.{Checked, check-right, check-exactly, ListedAs, no-room, no-order, an-order, listed-right, Answered, list-right}
+use Rattle.verdicts.specs.LogLaws.{Fault, faults, read-turns, read-back, Sized, granted-read}
+use Rattle.verdicts.specs.VerdictLaws.{Checked, check-right, check-exactly, ListedAs, no-room, no-order, an-order, listed-right, Answered, log-faulty, log-read, list-right}
 
 -- ---- the checker
 
@@ -82,7 +82,24 @@ module _ (bytes lent : List ℕ) (h : History) (reads : read-log bytes ≡ event
       none-left f (no-order l c) = refl
       none-left f (an-order {o = o} l e b n) = absurd (f o b)
 
--- ---- granted logs
+-- a refusal leaves the lent list as it was
+pub refusal-leaves : (bytes lent : List ℕ) → (list-order bytes lent .code ≡ 0 → ⊥) → list-order bytes lent .list ≡ lent
+refusal-leaves bytes lent f = kept-list (list-right bytes lent) f
+  where
+    same : {h : History} {a : Listed} → ListedAs h lent a → (a .code ≡ 0 → ⊥) → a .list ≡ lent
+    same (no-room l) g = refl
+    same (no-order l c) g = refl
+    same (an-order l e b n) g = absurd (g refl)
+
+    kept-list : {a : Listed} → Answered bytes lent a → (a .code ≡ 0 → ⊥) → a .list ≡ lent
+    kept-list (log-faulty e) g = refl
+    kept-list (log-read e t l) g = same l g
+
+-- ---- logs
+
+-- a log that is refused has the wrong length, or its lowest faulty record stands at the place reported, with the code of its first fault
+pub fault-means : (bytes : List ℕ) (c p : ℕ) → read-log bytes ≡ faulty c p → Fault bytes c p
+fault-means = faults
 
 -- the log of what was granted, within the sizes, is read without a fault, and with room is never answered 17
 pub granted-listed : (first : ℕ) (rs : List Request) (lent : List ℕ) → length (history-of first rs) ≤ 4096 → length (opened (history-of first rs)) ≤ most-jobs

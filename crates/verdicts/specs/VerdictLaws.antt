@@ -1,17 +1,16 @@
--- The verdicts mean what they say. In order: code 15 and its place (`entries`, `missing-test`); code 16 and its place (`pairs`); the checker accepts
--- exactly the accepted orders of a log without a fault (`check-exactly`); the lister gives an accepted order whenever one exists, the lowest-first one,
--- and 17 exactly when there is none (`lists-*`); the log of what was granted is never answered 17.
+-- The verdicts mean what they say. In order: code 15 and its place (`entries`, `missing-test`); code 16 and its place (`pairs`); the verdict code by code
+-- (`judged-right`, `check-right`); the checker accepts exactly the accepted orders of a log without a fault (`check-exactly`); the lister's answer
+-- code by code (`listed-right`, `list-right`).
 -- Assumes nothing.
 use mathlib.Core.Path.{_≡_, refl, sym, ap, _∙_, subst, subst₂}
 use mathlib.Core.Logic.{_⊎_, inl, inr, ⊎-elim, _↔_}
-use mathlib.Core.Bool.{Bool, true, false, not, _||_, cond}
+use mathlib.Core.Bool.{not, cond}
 use mathlib.Core.Option.{Option, none, some}
 use mathlib.Core.List.{List, [], _∷_, _++_, List·Memᴰ·head, List·Memᴰ·not-nil, List·Memᴰ·cases-cons, Memᴰ·cast, Memᴰ·append-right}
-use Prim.Native.Nat.{ℕ, zero, suc, _+_, _≤_, _<_, _%_}
+use Prim.Native.Nat.{ℕ, zero, suc, _+_, _≤_, _<_}
 use native.Mathlib.Omega.{arith}
-use lib.Dec.{ltb, eqb}
 use lib.ListN.{length, drop}
-use Rattle.graph.specs.Decide.{Decides, and-test, or-test, not-test, eq-test, lt-test, read-as, some-test, every-test, by-test, answer, false-is}
+use Rattle.graph.specs.Decide.{Decides, and-test, or-test, not-test, eq-test, lt-test, read-as, some-test, every-test, by-test, answer}
 use Rattle.graph.specs.Lists.{_∈_, here, later, each, Before, first, after, before-cons, before-nil, before-left, before-right, before-from-only, Once, none, more, once-one-way, members, once-irreflexive, before-across, once-if, once-length}
 use Rattle.history.specs.Events.{History, has, abandoned, kept, Step, all-steps, kept-steps, Conflict, Precedes, Circular, opened}
 use Rattle.history.specs.EventLaws.{conflict-test, precedes-of}
@@ -20,11 +19,9 @@ use Rattle.history.specs.TurnLaws.{has-test, orderly}
 use Rattle.history.specs.OrderLaws.{step-kept, order-accepted, no-order-circle}
 use Rattle.history.specs.Orders.{layout, Keeps, Accepted, order-of}
 use Rattle.history.specs.LayoutLaws.{keeps-forward, forward-keeps}
-use Rattle.history.specs.Formats.{records}
-use Rattle.verdicts.specs.Logs.{Reading, faulty, events, read-log, record-bytes, most-bytes, fault-of, read-from}
+use Rattle.verdicts.specs.Logs.{Reading, faulty, events, read-log}
 use Rattle.verdicts.specs.Verdicts.{Verdict, verdict, first-bad, missing, stands-before, backward, first-backward, or-else, judged, judge, check, Listed, refused, written, listed, list-of, list-order}
-use Rattle.verdicts.specs.LogLaws.{read-turns}
-use Rattle.history.specs.Replies.{Request, want, event-of}
+use Rattle.verdicts.specs.LogLaws.{read-turns, Fault, of-length, of-record, faults}
 
 -- ---- code 15
 
@@ -236,25 +233,13 @@ check-right bytes order = go (read-log bytes) refl
     go (faulty c p) e = log-faulty e
     go (events h) e = let t = read-turns bytes h e in log-read e t (judged-right h t order)
 
--- a fault of a log has one of the codes 11 to 14, so never 0
-fault-code : (h : History) (n : ℕ) (rs : List Request) {c p : ℕ} → read-from h n rs ≡ faulty c p → c ≡ 0 → ⊥
-fault-code h n [] e z = let y : _≡_ {A = ℕ} 0 1 = cc in omega arith
-fault-code h n (r ∷ rs) {c} {p} e z = go (eqb (fault-of h r) 0) refl e (λ q. fault-code (h ++ event-of (r .job) (want (r .kind)) (r .job) (r .cell)) (suc n) rs q z)
-  where
-    rest : Reading
-    rest = read-from (h ++ event-of (r .job) (want (r .kind)) (r .job) (r .cell)) (suc n) rs
-
-    go : (b : Bool) → eqb (fault-of h r) 0 ≡ b → cond b rest (faulty (fault-of h r) n) ≡ faulty c p → (rest ≡ faulty c p → ⊥) → ⊥
-    go true q x f = f x
-    go false q x f = let y : fault-of h r ≡ c = cc in false-is q (eq-test (fault-of h r) 0 .shows (y ∙ z))
-
+-- a fault of a log has a code that is not 0
 faulty-code : (bytes : List ℕ) {c p : ℕ} → read-log bytes ≡ faulty c p → c ≡ 0 → ⊥
-unfolding read-log
-faulty-code bytes {c} {p} e z = go (not (eqb (length bytes % record-bytes) 0) || ltb most-bytes (length bytes)) e
+faulty-code bytes {c} {p} e = not-zero (faults bytes c p e)
   where
-    go : (b : Bool) → cond b (faulty 11 0) (read-from [] zero (records bytes)) ≡ faulty c p → ⊥
-    go true x = let y : 11 ≡ c = cc in omega arith
-    go false x = fault-code [] zero (records bytes) x z
+    not-zero : {c p : ℕ} → Fault bytes c p → c ≡ 0 → ⊥
+    not-zero (of-length l) z = let y : _≡_ {A = ℕ} 11 0 = z in omega arith
+    not-zero (of-record m l f) z = f .is-fault z
 
 module _ (h : History) (order : List ℕ) where
   -- an accepted order has no fault to report, and so no other verdict
