@@ -23,7 +23,7 @@ lent next free numbers leads sets = record { next = next; free = free; numbers =
 abbrev pub sets-only : List ℕ → Held
 sets-only sets = lent 0 0 [] [] sets
 
--- byte 0 the kind, byte 1, bytes 2 and 3 the cell, bytes 4 to 7 the job, low byte first
+-- the kind, a byte that should be 0, two bytes of cell, four of job, the low byte first
 unfoldable pub request-of : List ℕ → Request
 request-of b =
     record {

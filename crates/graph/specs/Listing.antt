@@ -1,7 +1,7 @@
 -- Orders of a list of jobs under an edge relation, and the lowest-first one, as a property and computed.
 --
 -- `Forward E l o`: o names each job of l once and nothing else, and every edge between jobs of l goes forward in it.
--- `LowestFirst E l o`: at each place of o stands the lowest-numbered job of l not yet placed whose predecessors are all placed.
+-- `LowestFirst E l o`: each place of o has, of the jobs of l that are left and that no job left precedes, the one with the lowest number.
 -- `lowest-first e l` computes it, or none where it gets stuck. `forced e l o` tests that one job only could stand at each place of o.
 -- Assumes nothing.
 use mathlib.Core.Path.{_≡_, refl}

@@ -1,7 +1,7 @@
 -- What was granted: events, the kept history, conflict, precedence, circle.
 --
--- A history is the list of granted requests, oldest first. A step is a granted read or write together with its place in the
--- history, so that two equal requests are two steps. Abandoning a job takes all its steps out of the kept history.
+-- A history is everything granted so far, the oldest first. A step is a granted read or write together with its place in the
+-- history, so that two equal requests are two steps. Once a job is abandoned none of its steps counts as kept.
 -- Each relation stands here twice: as a proposition, to be believed, and as a test that computes, joined by a theorem in EventLaws.
 -- Assumes nothing.
 use mathlib.Core.Path.{_≡_}
@@ -84,7 +84,7 @@ ended h = gather ended-by h
 unfoldable pub abandoned : History → List ℕ
 abandoned h = gather abandoned-by h
 
--- kept: opened and not abandoned, ended or not
+-- kept: every opened job but the abandoned ones, whether it has ended or is open
 unfoldable pub kept : History → List ℕ
 kept h = only (λ j. not (has (abandoned h) j)) (opened h)
 
@@ -127,7 +127,7 @@ wrote h j = some-of (λ s. eqb (s .job) j && alters (s .kind)) (all-steps h)
 
 -- ---- conflict and precedence
 
--- two steps conflict when they belong to different jobs, name the same cell, and their kinds clash
+-- a conflict: steps of two jobs on one cell, of kinds that clash
 pub record Conflict (a b : Step) : Type 0 where
   pub others : a .job ≡ b .job → ⊥
   pub same-cell : a .cell ≡ b .cell
@@ -136,7 +136,7 @@ pub record Conflict (a b : Step) : Type 0 where
 unfoldable pub conflict : Step → Step → Bool
 conflict a b = not (eqb (a .job) (b .job)) && (eqb (a .cell) (b .cell) && clash (a .kind) (b .kind))
 
--- job i precedes job j when a step of i conflicts with a later step of j
+-- i precedes j: in the list some step of i stands before a step of j that is in conflict with it
 pub record Precedes (s : List Step) (i j : ℕ) : Type 0 where
   pub earlier : Step
   pub later : Step

@@ -1,6 +1,6 @@
 -- The layout of requests and of answers in bytes, low byte first.
 --
--- A request or a record of a log: byte 0 the kind, byte 1, bytes 2 and 3 the cell, bytes 4 to 7 the job. An answer: four bytes of code, four of job.
+-- A request or a record of a log has eight bytes: the kind, one that should be 0, two of cell, four of job. An answer: four bytes of code, four of job.
 -- Assumes nothing.
 use mathlib.Core.List.{List, [], _∷_, _++_}
 use Prim.Native.Nat.{ℕ, zero, suc, _+_, _*_, _/_, _%_}

@@ -1,8 +1,8 @@
 -- The bounded memory: what is held of the open jobs, as Bool-valued tables over job numbers, and the rule that moves it.
 --
--- own: a job's reads and writes. past: the reads and writes of the ended jobs that an open job leads to by ended jobs only. leads: which
--- open job leads to which other, directly or by ended jobs only. A chain through an open job is not folded in, because that job may yet
--- be abandoned. Tables of jobs that are not open are blank.
+-- Three tables speak of each open job. own: the cells it has touched itself. past: the cells touched by ended jobs that it leads to, with
+-- nothing but ended jobs in between. leads: the open jobs that it leads to in that way. What lies behind another open job is left to that job,
+-- which could still be abandoned. Tables of jobs that are not open are blank.
 --
 -- The rule is three functions (`Rule`), so that a wrong build is another rule over the same memory (WrongBuilds).
 -- Assumes nothing.

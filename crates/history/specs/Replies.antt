@@ -24,7 +24,7 @@ pub record Reply : Type 0 where
   pub code : ℕ
   pub job : ℕ
 
--- cells 0 to 255; at most 32 jobs open; job numbers 0 to 4,294,967,295
+-- 256 cells; 32 jobs open at the most; 2^32 job numbers, from 0 on
 abbrev pub cells : ℕ
 cells = 256
 
@@ -66,12 +66,12 @@ infix 3 _gives_
 abbrev pub _gives_ : Bool → ℕ → Test
 b gives n = record { holds = b; code = n }
 
--- the first that holds is given, and 0 where none does
+-- the code of the earliest test that holds, or 0 if all fail
 abbrev pub first-of : List Test → ℕ
 first-of [] = 0
 first-of (t ∷ ts) = cond (t .holds) (t .code) (first-of ts)
 
--- 2, 3, 7 for a step; 3 for an end; 3, 4 for an abandon; 6, 5 for an open
+-- a step is tested for 2, then 3, then 7; an end for 3; an abandon for 3, then 4; an open for 6, then 5
 unfoldable pub tests : Facts → Want → ℕ → ℕ → List Test
 tests f an-open j c = (leb numbers (f .next) gives 6) ∷ (leb most-open (f .count) gives 5) ∷ []
 tests f (a-step k) j c = (leb cells c gives 2) ∷ (not (f .is-open j) gives 3) ∷ (f .closes k j c gives 7) ∷ []
@@ -93,7 +93,7 @@ event-of n an-end j c = ends j ∷ []
 event-of n an-abandon j c = abandons j ∷ []
 event-of n nothing j c = []
 
--- a granted open answers the new number, any other grant the job named
+-- the job that a grant names: for an open the number just issued, otherwise the job that asked
 unfoldable pub job-of : ℕ → Want → ℕ → ℕ
 job-of n an-open j = n
 job-of n (a-step k) j = j
@@ -101,7 +101,7 @@ job-of n an-end j = j
 job-of n an-abandon j = j
 job-of n nothing j = j
 
--- a refusal answers job 0, and the history stays
+-- a refusal names job 0, and the history stays
 unfoldable pub reply-of : Facts → Request → Reply
 reply-of f r = record { code = code-of f r; job = cond (eqb (code-of f r) 0) (job-of (f .next) (want (r .kind)) (r .job)) 0 }
 

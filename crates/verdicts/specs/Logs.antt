@@ -1,7 +1,7 @@
 -- The reading of a log: from bytes to the lowest fault, with its code and place, or to the events that its records are.
 --
 -- A record is eight bytes in the layout of a request: the kind, byte 1, the cell in two bytes and the job in four, low byte first. Code 11 is
--- the length's; then the lowest faulty record decides, at which 12 goes before 13 before 14. The log of a history is its events as records.
+-- the length's; after it the earliest record with a fault gives the answer, and of its own faults 12 comes first and 14 last. The log of a history is its events as records.
 -- Assumes nothing.
 use mathlib.Core.Bool.{Bool, true, false, not, _||_, cond}
 use mathlib.Core.List.{List, [], _∷_, _++_}
@@ -35,7 +35,7 @@ ill-formed an-end r = not (eqb (r .byte1) 0) || not (eqb (r .cell) 0)
 ill-formed an-abandon r = not (eqb (r .byte1) 0) || not (eqb (r .cell) 0)
 ill-formed nothing r = true
 
--- 13: out of turn: an open not above all numbers opened before, a job not open there, an abandon after its own write
+-- 13: out of turn: an open whose number is not the highest so far, another record of a job that is not open there, an abandon of a job that wrote
 unfoldable pub out-of-turn : History → Want → ℕ → Bool
 out-of-turn h an-open j = not (every-of (λ i. ltb i j) (opened h))
 out-of-turn h (a-step k) j = not (has (open-now h) j)
@@ -70,7 +70,7 @@ read-from h n (r ∷ rs) =
     let rest = read-from (h ++ event-of (r .job) (want (r .kind)) (r .job) (r .cell)) (suc n) rs in
     cond (eqb (fault-of h r) 0) rest (faulty (fault-of h r) n)
 
--- 11: a length that is no multiple of 8, or above 32,768
+-- 11: the bytes are not whole records, or are more than 32,768
 unfoldable pub read-log : List ℕ → Reading
 read-log bytes =
     let good = read-from [] zero (records bytes) in
@@ -85,7 +85,7 @@ kind-number write = 3
 abbrev pub fields : ℕ → ℕ → ℕ → List ℕ
 fields k c j = k ∷ 0 ∷ (bytes-of 2 c ++ bytes-of 4 j)
 
--- open carries the number issued and cell 0, end and abandon carry cell 0
+-- the cell field is 0 but in a step; the record of an open has the number that it was given
 abbrev pub record-of : Event → List ℕ
 record-of (opens j) = fields 1 0 j
 record-of (steps k j c) = fields (kind-number k) c j

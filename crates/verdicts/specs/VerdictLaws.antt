@@ -117,7 +117,7 @@ pub record Turned (order : List ℕ) (a b : Step) : Type 0 where
   pub conflicting : Conflict a b
   pub turned : Before (b .job) (a .job) order
 
--- what is found among s: no pair is turned round, or the first step that is the later one of such a pair
+-- what is found among s: no pair is turned round, or the first step that comes second in one that is
 data Pairs (order : List ℕ) : List Step → List Step → Option ℕ → Type 0 where
   none-turned : {earlier s : List Step} → ((a b : Step) → Pair earlier s a b → Turned order a b → ⊥) → Pairs order earlier s Option.none
   turned-at : {earlier s : List Step} (a b : Step) → Pair earlier s a b → Turned order a b
@@ -165,7 +165,7 @@ not-turned h {order} once names of-kept f i j p =
 is-turned : (h : History) {order : List ℕ} → Once order → Keeps (kept-steps h) (layout (kept-steps h) order) → (a b : Step) → Before a b (kept-steps h) → Turned order a b → ⊥
 is-turned h {order} once k a b r t = once-one-way once (keeps-forward k (a .job) (b .job) (precedes-of r (t .conflicting))) (t .turned)
 
--- the lowest record that is the later one of a pair that the order turns round
+-- the earliest step that comes second in a pair that the order turns round, and its place
 pub record LowestTurned (h : History) (order : List ℕ) (p : ℕ) : Type 0 where
   pub earlier : Step
   pub later : Step

@@ -42,7 +42,7 @@ stands-before (x ∷ order) i j = (eqb x i && has order j) || stands-before orde
 unfoldable pub backward : List ℕ → List Step → Step → Bool
 backward order earlier b = some-of (λ a. conflict a b && stands-before order (b .job) (a .job)) earlier
 
--- the lowest record that is the later one of a backward pair; `earlier` are the steps before s
+-- the place of the earliest step that comes second in a pair that runs backward; `earlier` are the steps before s
 abbrev pub first-backward : List ℕ → List Step → List Step → Option ℕ
 first-backward order earlier [] = none
 first-backward order earlier (b ∷ s) = cond (backward order earlier b) (some (b .at)) (first-backward order (b ∷ earlier) s)
