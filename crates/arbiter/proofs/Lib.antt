@@ -3,3 +3,5 @@ pub mod SearchLaws
 pub mod SetLaws
 pub mod ClashLaws
 pub mod RequestLaws
+pub mod ReplayLaws
+pub mod OneAnswer

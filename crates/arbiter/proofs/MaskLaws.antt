@@ -52,7 +52,10 @@ mask-bit {x} i n s f e t h = ap (λ (d : ℕ). bitOr x (d * 2 ^ i % 2 ^ 32)) (bi
     go true t = ap (bitOr x) (one-shl h) ∙ mask-in i f e t
     go false t = ap (λ (y : ℕ). bitOr x (y % 2 ^ 32)) (zero-mul (2 ^ i)) ∙ or-zero-r x ∙ mask-out i f e t
 
--- a number is known by its marks
+-- a mark of a mask is what its rule says, and a number is known by its marks
+pub bit-of : {x : ℕ} (w : ℕ) (f : ℕ → Bool) → x ≡ mask-of w f → (k : ℕ) → k < w → bit x k ≡ f k
+bit-of w f e k q = ap (λ (n : ℕ). bit n k) e ∙ bit-mask w f k q
+
 pub masked : {x : ℕ} (w : ℕ) (f : ℕ → Bool) → x < 2 ^ w → ((k : ℕ) → k < w → bit x k ≡ f k) → x ≡ mask-of w f
 masked {x} w f h e = bit-same w x (mask-of w f) h (mask-lt w f) (λ k q. e k q ∙ sym (bit-mask w f k q))
 
@@ -190,16 +193,18 @@ pub listed : {n : ℕ} {f : ℕ → ℕ} {l : List ℕ} → length l ≡ n → (
 listed {n} {f} {l} e h =
     ext-getD 0 l (tab n f) (e ∙ sym (length-tab n f)) (λ p q. let r : p < n = subst (λ (k : ℕ). p < k) e q in h p r ∙ sym (getD-tab n f p 0 r))
 
--- what a store leaves in its place, and the list after it
+-- what a store leaves in its place and in each place, and the list after it
 set-here : {n : ℕ} (l : List ℕ) (i x p : ℕ) → length l ≡ n → i < n → p ≡ i → getD (set l i x) p 0 ≡ x
 set-here l i x p e h s = ap (λ (k : ℕ). getD (set l i x) k 0) s ∙ getD-set-same l i x 0 (subst (λ (k : ℕ). i < k) (sym e) h)
 
+pub getD-set : (l : List ℕ) (i x p : ℕ) → i < length l → getD (set l i x) p 0 ≡ cond (eqb p i) x (getD l p 0)
+getD-set l i x p h =
+    by-test (λ (b : Bool). getD (set l i x) p 0 ≡ cond b x (getD l p 0)) (eq-test p i) (set-here l i x p refl h) (getD-set-other l i p x 0)
+
 pub stored : {n : ℕ} {f : ℕ → ℕ} (l : List ℕ) (i x : ℕ) → length l ≡ n → i < n → ((p : ℕ) → p < n → getD l p 0 ≡ f p)
     → set l i x ≡ tab n (λ p. cond (eqb p i) x (f p))
-stored {f} l i x e h g =
-    listed (length-set l i x ∙ e)
-    (λ p q.
-    by-test (λ b. getD (set l i x) p 0 ≡ cond b x (f p)) (eq-test p i) (set-here l i x p e h) (λ ne. getD-set-other l i p x 0 ne ∙ g p q))
+stored l i x e h g =
+    listed (length-set l i x ∙ e) (λ p q. getD-set l i x p (subst (λ (k : ℕ). i < k) (sym e) h) ∙ ap (cond (eqb p i) x) (g p q))
 
 -- a list of n elements of which those that were seen are f of what they were
 pub record Rewritten (n : ℕ) (seen : ℕ → Bool) (f : ℕ → ℕ) (old l : List ℕ) : Type 0 where

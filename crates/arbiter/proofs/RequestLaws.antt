@@ -12,22 +12,22 @@ use mathlib.Core.Bool.{Bool, true, false, not, _&&_, _||_, cond, and-false, or-f
 use mathlib.Core.Option.{Option, none, some}
 use mathlib.Core.List.{List, [], _∷_}
 use Prim.Native.Nat.{ℕ, zero, suc, _+_, _-_, _*_, _/_, _%_, _^_, _≤_, _<_, suc-le-suc}
-use native.Mathlib.Nat.{one-mul, add-assoc, not-suc-le-zero, zero-lt-suc, le-of-suc-le-suc, lt-trans, lt-of-le-of-lt, mod-eq-of-lt}
+use native.Mathlib.Nat.{add-assoc, not-suc-le-zero, zero-lt-suc, le-of-suc-le-suc, lt-trans, lt-of-le-of-lt, mod-eq-of-lt}
 use native.Mathlib.Numerals.{add-one}
 use native.Mathlib.Omega.{arith}
 use lib.Bits.{bitOr, bitAnd, or-lt, and-le-l, and-le-r}
 use lib.Count.{ones, trailingZeros}
-use lib.Dec.{T, leb, eqb, lit<}
-use lib.ListN.{length, getD, set, take, drop, replicate, length-set}
-use lib.Pow.{shl-exact, ones-sub-lt}
-use lib.Seq.{take-nil, getD-drop, ext-getD, getD-set-same, getD-set-other}
+use lib.Dec.{T, leb, eqb}
+use lib.ListN.{length, getD, take, drop, replicate}
+use lib.Pow.{ones-sub-lt}
+use lib.Seq.{take-nil, getD-drop}
 use borrow.Author.Tests.{le-leb, lt-leb, eq-eqb, ne-eqb}
-use Rattle.graph.specs.Decide.{Decides, some-of, false-is, own-test, eq-test, le-test, not-test, and-test, or-test, read-as, answer, by-test, same-test, test-true}
+use Rattle.graph.specs.Decide.{Decides, some-of, false-is, own-test, eq-test, le-test, not-test, and-test, or-test, read-as, answer, same-test, test-true}
 use Rattle.graph.specs.Lists.{_∈_, only, only-yes, only-no, only-only, only-keeps, only-from}
 use Rattle.graph.specs.Reach.{reach, reach-test}
 use Rattle.graph.specs.Walk.{Via, one, carry, join, relax, cut, into}
 use Rattle.marks.specs.Marks.{bit, mask-of, without, tab, upto}
-use Rattle.marks.specs.MarkLaws.{digit, length-tab, getD-tab, tab-same, upto-has, upto-from, bit-zero, bit-pow, bit-or, bit-and, bit-same, bit-others, mask-lt, bit-mask, mask-bits, tab-suc}
+use Rattle.marks.specs.MarkLaws.{digit, getD-tab, tab-same, upto-has, upto-from, bit-zero, bit-pow, equal-test, or-bit, and-bit, bit-others, mask-lt, mask-bits, tab-suc}
 use Rattle.marks.specs.MarkLaws.{Lowest, lowest-mark, nonzero-bit, bit-nonzero, only-count, ones-count, and-others}
 use Rattle.marks.specs.Words.{empty}
 use Rattle.history.specs.Events.{Kind}
@@ -39,6 +39,7 @@ use Rattle.arbiter.specs.declared.Answer.{Answer}
 use Rattle.arbiter.specs.declared.Answer.the-variants.{Granted, Malformed, NoCell, NotOpen, HasWritten, Full, Spent, Circle}
 use Rattle.arbiter.specs.declared.JobNumber.{JobNumber}
 use Rattle.arbiter.specs.declared.Moved.{Moved}
+use Rattle.arbiter.proofs.MaskLaws.{one-shl, bit-of, masked}
 
 -- ---- what the callees ensure
 
@@ -108,33 +109,9 @@ Leaves h s j r numbers leads sets =
 
 -- ---- as the code has it
 
-pub mark-is : {s : ℕ} → s < 32 → mark s ≡ 2 ^ s
-mark-is {s} h = shl-exact 1 s 32 (lit< tt) (omega arith) ∙ one-mul (2 ^ s)
-
--- a mark of a mask is what its rule says
-bit-of : (w : ℕ) (f : ℕ → Bool) {n : ℕ} → n ≡ mask-of w f → (k : ℕ) → k < w → bit n k ≡ f k
-bit-of w f e k q = ap (λ (n : ℕ). bit n k) e ∙ bit-mask w f k q
-
 -- !n: the mask of the marks that n has not
 others-mask : (w n : ℕ) → n < 2 ^ w → 2 ^ w - 1 - n ≡ mask-of w (is-open n)
-others-mask w n h =
-    bit-same w (2 ^ w - 1 - n) (mask-of w (is-open n)) (ones-sub-lt w n) (mask-lt w (is-open n)) (λ k q. bit-others w n k h q ∙ sym (bit-mask w (is-open n) k q))
-
--- numbers[s] = x, for an array of 32
-pub put-is : (numbers : List ℕ) (s x : ℕ) → length numbers ≡ 32 → set numbers s x ≡ put numbers s x
-put-is l s x e = ext-getD 0 (set l s x) (put l s x) (same-length ∙ sym (length-tab 32 row)) (λ i q. at i q ∙ sym (getD-tab 32 row i 0 (subst (λ (k : ℕ). i < k) same-length q)))
-  where
-    row : ℕ → ℕ
-    row i = cond (eqb i s) x (getD l i 0)
-
-    same-length : length (set l s x) ≡ 32
-    same-length = length-set l s x ∙ e
-
-    at : (i : ℕ) → i < length (set l s x) → getD (set l s x) i 0 ≡ row i
-    at i q =
-        by-test (λ b. getD (set l s x) i 0 ≡ cond b x (getD l i 0)) (eq-test i s)
-        (λ j. ap (λ (k : ℕ). getD (set l s x) k 0) j ∙ getD-set-same l s x 0 (subst (λ (k : ℕ). s < k) (length-set l s x) (subst (λ (k : ℕ). k < length (set l s x)) j q)))
-        (getD-set-other l s i x 0)
+others-mask w n h = masked w (is-open n) (ones-sub-lt w n) (λ k q. bit-others w n k h q)
 
 -- ---- the lowest slot that passes a test
 
@@ -238,16 +215,6 @@ module _ (h : Held) (fits : h .free < 2 ^ 32) where
 marks-test : (w n : ℕ) → n < 2 ^ w → Decides (not (eqb n 0)) ((k : ℕ) × (k < w) × T (bit n k))
 marks-test w n h = read-as (not-test (eq-test n 0)) (nonzero-bit w n h) (λ r. bit-nonzero n (r .0) (r .2))
 
--- a mark of a mask, of either of two numbers and of both, each read as the tests that it is made of are
-read-by : {A : Type 0} {a b : Bool} → a ≡ b → Decides b A → Decides a A
-read-by {A} e d = subst (λ (y : Bool). Decides y A) (sym e) d
-
-or-bit : {A B : Type 0} (a b x : ℕ) → Decides (bit a x) A → Decides (bit b x) B → Decides (bit (bitOr a b) x) (A ⊎ B)
-or-bit a b x d e = read-by (bit-or a b x) (or-test d e)
-
-and-bit : {A B : Type 0} (a b x : ℕ) → Decides (bit a x) A → Decides (bit b x) B → Decides (bit (bitAnd a b) x) (A × B)
-and-bit a b x d e = read-by (bit-and a b x) (and-test d e)
-
 -- Leads that all point into the slot s are added, from the slots that are `new`. A chain over open slots from s back to s is then one that was there, or one
 -- that was there from s to a slot that is new, or s is new itself.
 module _ (free : ℕ) (leads : List ℕ) (s : ℕ) (new : ℕ → Bool) where
@@ -309,13 +276,13 @@ module _ (free : ℕ) (leads : List ℕ) (s : ℕ) (new : ℕ → Bool) where
         (and-bit (bitOr seen me) into-s x (or-bit seen me x in-seen in-me) in-new)
       where
         in-seen : Decides (bit seen x) ((x ∈ slots) × Chain x)
-        in-seen = read-by (bit-of 32 (reaches free leads s) es x q) (and-test (slot-test x q) (reach-test (λ i y. own-test (bit (getD leads i 0) y)) slots s x))
+        in-seen = equal-test (bit-of 32 (reaches free leads s) es x q) (and-test (slot-test x q) (reach-test (λ i y. own-test (bit (getD leads i 0) y)) slots s x))
 
         in-new : Decides (bit into-s x) ((x ∈ slots) × T (new x))
-        in-new = read-by (bit-of 32 (λ i. is-open free i && new i) et x q) (and-test (slot-test x q) (own-test (new x)))
+        in-new = equal-test (bit-of 32 (λ i. is-open free i && new i) et x q) (and-test (slot-test x q) (own-test (new x)))
 
         in-me : Decides (bit me x) (x ≡ s)
-        in-me = read-by (ap (λ (n : ℕ). bit n x) em ∙ bit-pow s x) (eq-test x s)
+        in-me = equal-test (ap (λ (n : ℕ). bit n x) em ∙ bit-pow s x) (eq-test x s)
 
     hit-back : (x : ℕ) → Hit x → Back
     hit-back x (inl r) = inl (subst Chain (r .1) (r .0 .1))
@@ -452,7 +419,7 @@ pub does-open-granted : {h : Held} {j c : ℕ} {numbers leads sets : List ℕ} �
 unfolding moved opened-at number-at leads-at job-of
 does-open-granted {h} {j} {c} fits q ne ns ls ss =
     does-by 0 (code-open h j c (lt-leb 4294967296 (h .next) q) (count-full h fits ∙ ne-eqb (ones (h .free)) 0 ne)) (λ i. record { code = 0; job = number i })
-    (lent-same (add-one (h .next)) (ap (λ (m : ℕ). bitAnd (h .free) (4294967295 - m)) (mark-is inside) ∙ and-others 32 (h .free) (slot (h .free)) fits inside)
+    (lent-same (add-one (h .next)) (ap (λ (m : ℕ). bitAnd (h .free) (4294967295 - m)) (one-shl inside) ∙ and-others 32 (h .free) (slot (h .free)) fits inside)
     (ns ∙ ap (put (h .numbers) (slot (h .free))) number) ls ss
     ∙ ap (λ (o : Option ℕ). with-slot o (λ s. opened-at h s) h) (sym (free-first h fits (some-free ne))))
   where
@@ -494,7 +461,7 @@ module _ {h : Held} {writes : Bool} {j c found into-s seen : ℕ} (l : Looked h 
   step-code r =
       let o = slot-open (h .free) (h .numbers) j (l .holding) (l .some-slot) in
       code-step h (kind-of writes) j c (lt-leb 256 c (l .cell-lt)) (slot-some h j (l .holding) (l .some-slot))
-      (circle-law h (kind-of writes) (slot found) c (l .reached) touched-here (mark-is (o .0)) (o .0) (o .1) ∙ r)
+      (circle-law h (kind-of writes) (slot found) c (l .reached) touched-here (one-shl (o .0)) (o .0) (o .1) ∙ r)
 
   pub does-step-circle : {r : Moved} → (circle-code found into-s seen ≡ 0 → ⊥) → Refused h Circle r → Does h (a-step (kind-of writes)) j c r (h .numbers) (h .leads) (h .sets)
   does-step-circle f = refuses 7 (step-code (ap not (ne-eqb (circle-code found into-s seen) 0 f))) refl refl
@@ -514,7 +481,7 @@ module _ {h : Held} {writes : Bool} {j c found into-s seen : ℕ} (l : Looked h 
 pub leaves : (h : Held) (s : ℕ) (job : JobNumber) {numbers leads sets : List ℕ} → s < 32
     → numbers ≡ put (h .numbers) s 0 → leads ≡ struck (h .leads) s → sets ≡ blanked (h .sets) s
     → Leaves h s (job .0) (record { next = h .next; free = bitOr (h .free) (mark s); answer = Granted job }) numbers leads sets
-leaves h s job inside ns ls ss = (refl, ap (bitOr (h .free)) (mark-is inside), refl, ns, ls, ss)
+leaves h s job inside ns ls ss = (refl, ap (bitOr (h .free)) (one-shl inside), refl, ns, ls, ss)
 
 -- the rows that pass t have taken over the leads and the sets of s, and then s is left
 left-as : (h : Held) (t : ℕ → Bool) (s j : ℕ) (r : Moved) (leads₁ sets₁ : List ℕ) {numbers leads sets : List ℕ} → h .free < 2 ^ 32

@@ -4,7 +4,7 @@
 -- to do, which together find it once nothing is to do (`found-test`); a turn of the loop keeps it (`turn`) and makes a number smaller (`falls`); what is
 -- met is what a walk over open slots reaches, so the seen slots are the mask of `reach` (`reached-mask`).
 -- Assumes nothing.
-use mathlib.Core.Path.{_≡_, sym, ap, _∙_, subst}
+use mathlib.Core.Path.{_≡_, ap, _∙_, subst}
 use mathlib.Core.Logic.{_⊎_, inl, inr, ⊎-elim}
 use mathlib.Core.Bool.{Bool, not, _&&_}
 use mathlib.Core.List.{List}
@@ -15,28 +15,18 @@ use lib.Bits.{bitOr, bitAnd, or-disjoint, or-lt, and-le-l, and-le-r}
 use lib.Count.{trailingZeros}
 use lib.Dec.{T}
 use lib.Pow.{pow-pos, ones-sub-lt}
-use Rattle.graph.specs.Decide.{Decides, false-is, and-test, or-test, not-test, own-test, eq-test, read-as, answer, same-test, test-false}
+use Rattle.graph.specs.Decide.{Decides, false-is, and-test, not-test, own-test, eq-test, read-as, answer, same-test, test-false}
 use Rattle.graph.specs.Lists.{_∈_, only, only-keeps, only-from}
 use Rattle.graph.specs.Reach.{reach, reach-test}
 use Rattle.graph.specs.Walk.{Via, one, step, join}
-use Rattle.marks.specs.MarkLaws.{bit-above, bit-or, bit-and, bit-others, bit-same, bit-nonzero, bit-mask, bit-without, mask-lt, no-bits, and-pred, without-lt, lowest-mark, upto-has, upto-from}
+use Rattle.marks.specs.MarkLaws.{bit-above, equal-test, or-bit, and-bit, either-test, both-test, bit-others, bit-same, bit-nonzero, bit-mask, bit-without, mask-lt, no-bits, and-pred, without-lt, lowest-mark, upto-has, upto-from}
 use Rattle.marks.specs.Marks.{bit, mask-of, upto}
 
 -- ---- marks, as tests
 
--- a test that is equal to another decides the same
-equal-test : {A : Type 0} {a b : Bool} → a ≡ b → Decides b A → Decides a A
-equal-test {A} e d = subst (λ (x : Bool). Decides x A) (sym e) d
-
 -- a mark stands below the width
 inside : (w n x : ℕ) → n < 2 ^ w → T (bit n x) → x < w
 inside w n x h t = lt-of-not-le (λ (q : w ≤ x). false-is (bit-above w n x h q) t)
-
-both-test : (a b x : ℕ) → Decides (bit (bitAnd a b) x) (T (bit a x) × T (bit b x))
-both-test a b x = equal-test (bit-and a b x) (and-test (own-test (bit a x)) (own-test (bit b x)))
-
-either-test : (a b x : ℕ) → Decides (bit (bitOr a b) x) (T (bit a x) ⊎ T (bit b x))
-either-test a b x = equal-test (bit-or a b x) (or-test (own-test (bit a x)) (own-test (bit b x)))
 
 -- a mark of the complement is one below the width that n has not
 others-test : (w n x : ℕ) → n < 2 ^ w → Decides (bit (2 ^ w - 1 - n) x) ((x < w) × (T (bit n x) → ⊥))
@@ -118,8 +108,7 @@ module _ {to : ℕ → ℕ} {w first seen todo : ℕ} (s : Search to w first see
   todo-test : (x : ℕ) → Decides (bit (bitOr (bitAnd todo (todo - 1)) (fresh to w seen todo)) x)
       ((T (bit todo x) × (x ≡ trailingZeros w todo → ⊥)) ⊎ T (bit (fresh to w seen todo) x))
   todo-test x =
-      equal-test (bit-or (bitAnd todo (todo - 1)) (fresh to w seen todo) x)
-      (or-test (rest-test w todo x (s .todo-fits) more) (own-test (bit (fresh to w seen todo) x)))
+      or-bit (bitAnd todo (todo - 1)) (fresh to w seen todo) x (rest-test w todo x (s .todo-fits) more) (own-test (bit (fresh to w seen todo) x))
 
   there : T (bit todo (trailingZeros w todo))
   there = lowest-mark w todo (s .todo-fits) more .there
@@ -180,7 +169,7 @@ Walk row ks = Via (λ i y. T (bit (row i) y)) (λ m. m ∈ ks)
 
 module _ (row : ℕ → ℕ) (allowed : ℕ) (ks : List ℕ) (among : (x : ℕ) → Decides (bit allowed x) (x ∈ ks)) where
   lead-test : (i x : ℕ) → Decides (bit (leads-to row allowed i) x) (T (bit (row i) x) × (x ∈ ks))
-  lead-test i x = equal-test (bit-and (row i) allowed x) (and-test (own-test (bit (row i) x)) (among x))
+  lead-test i x = and-bit (row i) allowed x (own-test (bit (row i) x)) (among x)
 
   -- what is met from where p leads to is allowed, and a walk from p reaches it
   met-reached : {p x : ℕ} → Met (leads-to row allowed) (leads-to row allowed p) x → (x ∈ ks) × Walk row ks p x

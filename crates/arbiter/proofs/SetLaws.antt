@@ -21,15 +21,9 @@ use Rattle.graph.specs.Decide.{Decides, answer, false-is, by-test, eq-test, le-
 use Rattle.marks.specs.Marks.{bit, tab}
 use Rattle.marks.specs.MarkLaws.{length-tab, getD-tab, tab-same, lowest-mark}
 use Rattle.marks.specs.Words.{with-mark, union}
-use Rattle.arbiter.proofs.MaskLaws.{listed, Visiting, visit-start, visit-turn, visit-kept, visit-end}
+use Rattle.arbiter.proofs.MaskLaws.{listed, getD-set, Visiting, visit-start, visit-turn, visit-kept, visit-end}
 
 -- ---- words stored one after the other
-
--- what a list holds after one store
-getD-set : (l : List ℕ) (i x w : ℕ) → i < length l → getD (set l i x) w 0 ≡ cond (eqb w i) x (getD l w 0)
-getD-set l i x w h =
-    by-test (λ (b : Bool). getD (set l i x) w 0 ≡ cond b x (getD l w 0)) (eq-test w i)
-    (λ e. ap (λ (k : ℕ). getD (set l i x) k 0) e ∙ getD-set-same l i x 0 h) (getD-set-other l i w x 0)
 
 -- the first n of vs, stored from a place on
 abbrev pub written : List ℕ → ℕ → List ℕ → ℕ → List ℕ

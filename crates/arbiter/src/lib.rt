@@ -1,17 +1,20 @@
-// The arbiter: the state, the request, the step. The work is done in place on lent arrays (`step_in_place`); the step by value takes the
-// state apart, lends its arrays and puts it together again.
+// The arbiter: the state, the request, the step, a run of requests, and what C and Rust link. The work is done in place on lent arrays (`step_in_place`);
+// the step by value takes the state apart, lends its arrays and puts it together again.
 ghost use mathlib.Core.Path.{_≡_};
 ghost use mathlib.Core.Bool.{Bool, true, false, not, _&&_, _||_, cond};
+ghost use mathlib.Core.List.{List, [], _++_};
 ghost use Prim.Native.Nat.{ℕ, _+_, _-_, _*_, _/_, _%_, _^_, _≤_, _<_};
 ghost use lib.Bits.{bitOr, bitAnd};
 ghost use lib.Dec.{T, leb, eqb};
-ghost use lib.ListN.{getD, take, drop};
+ghost use lib.ListN.{length, getD, take, drop};
 ghost use Rattle.graph.specs.Lists.{only};
 ghost use Rattle.graph.specs.Reach.{reach};
 ghost use Rattle.marks.specs.Marks.{bit, mask-of, without, tab, upto};
+ghost use Rattle.history.specs.Formats.{bytes-of};
 ghost use Rattle.history.specs.Replies.{an-open, a-step, an-end, an-abandon};
 ghost use Rattle.held.specs.Held.{fresh-held, touched, answer-to, after};
 ghost use Rattle.arbiter.specs.Lent.{lent, sets-only, request-of, numbered, kind-of, Does, Steps};
+ghost use Rattle.arbiter.specs.Replay.{replayed, told, packed};
 use cells::Cell;
 use cells::CellSet;
 
@@ -553,4 +556,146 @@ impl State {
             answer: answer,
         }
     }
+}
+
+// ---- many requests
+
+// What `replay` answers: the bytes written, or that the room is short.
+pub enum Replayed {
+    Done(usize),
+    NoRoom,
+}
+
+impl Replayed {
+    // Code 0, or 24.
+    pub fn code(self) -> u32
+        ensures { λ r. ⌜ r ≡ told self [] .code ⌝ }
+    {
+        match self {
+            Replayed::Done(_) => 0,
+            Replayed::NoRoom => 24,
+        }
+    }
+
+    // The bytes written, or place 0.
+    pub fn place(self) -> usize
+        ensures { λ r. ⌜ r ≡ told self [] .place ⌝ }
+    {
+        match self {
+            Replayed::Done(bytes) => bytes,
+            Replayed::NoRoom => 0,
+        }
+    }
+}
+
+// The eight bytes from a place on.
+fn request_at(requests: &[u8], at: usize) -> [u8; 8]
+    requires { ⌜ at + 8 ≤ length (now requests) ⌝ }
+    ensures { λ r. ⌜ r ≡ take 8 (drop at (now (requests .entry))) ⌝ }
+{
+    [
+        requests[at],
+        requests[at + 1],
+        requests[at + 2],
+        requests[at + 3],
+        requests[at + 4],
+        requests[at + 5],
+        requests[at + 6],
+        requests[at + 7],
+    ]
+}
+
+// Four bytes of a number, low byte first, from a place on.
+fn put_number(bytes: &mut [u8], at: usize, n: u32)
+    requires { ⌜ at + 4 ≤ length (now bytes) ⌝ }
+    ensures { λ _. ⌜ now (bytes .exit) ≡ take at (now (bytes .entry)) ++ bytes-of 4 n ++ drop (at + 4) (now (bytes .entry)) ⌝ }
+{
+    bytes[at] = (n % 256) as u8;
+    bytes[at + 1] = (n / 256 % 256) as u8;
+    bytes[at + 2] = (n / 256 / 256 % 256) as u8;
+    bytes[at + 3] = (n / 256 / 256 / 256 % 256) as u8;
+}
+
+// The whole records of `requests` from a fresh state, eight bytes of answer for each: code and job. A tail of 1 to 7 bytes is not read; bytes of `answers` past
+// those written stay. Where the room is short nothing is written.
+pub fn replay(first: JobNumber, requests: &[u8], answers: &mut [u8]) -> Replayed
+    ensures { λ r. ⌜ told r (now (answers .exit)) ≡ replayed (first .0) (now (requests .entry)) (now (answers .entry)) ⌝ }
+{
+    let count = requests.len() / 8;
+    if answers.len() / 8 < count {
+        return Replayed::NoRoom;
+    }
+    let mut next = first.0 as u64;
+    let mut free: u32 = 0xffff_ffff;
+    let mut numbers: [u32; 32] = [0; 32];
+    let mut leads: [u32; 32] = [0; 32];
+    let mut sets: [u64; 512] = [0; 512];
+    let mut i: usize = 0;
+    while i < count {
+        let request = request_at(requests, i * 8);
+        let m = step_in_place(next, free, &mut numbers, &mut leads, &mut sets, request);
+        next = m.next;
+        free = m.free;
+        let answer = m.answer;
+        put_number(answers, i * 8, answer.code());
+        put_number(answers, i * 8 + 4, answer.job().0);
+        i += 1;
+    }
+    Replayed::Done(count * 8)
+}
+
+// ---- for C and Rust
+
+// `replay`: the code. `written` gets the bytes written.
+#[no_mangle]
+pub extern "C" fn reedtangle_replay(
+    first: u32,
+    requests: &[u8],
+    answers: &mut [u8],
+    written: &mut u64,
+) -> u32
+    ensures { λ r. ⌜ record { code = r; place = now (written .exit); bytes = now (answers .exit) } ≡ replayed first (now (requests .entry)) (now (answers .entry)) ⌝ }
+{
+    let r = replay(JobNumber(first), requests, answers);
+    *written = r.place() as u64;
+    r.code()
+}
+
+// One request on the state that the host keeps: code times 2^32 plus job.
+#[no_mangle]
+pub extern "C" fn reedtangle_step(
+    next: &mut u64,
+    free: &mut u32,
+    numbers: &mut [u32; 32],
+    leads: &mut [u32; 32],
+    sets: &mut [u64; 512],
+    request: &[u8; 8],
+) -> u64
+    ensures { λ r. ⌜ (r ≡ packed (answer-to (lent (now (next .entry)) (now (free .entry)) (now (numbers .entry)) (now (leads .entry)) (now (sets .entry))) (request-of (now (request .entry)))))
+        × (lent (now (next .exit)) (now (free .exit)) (now (numbers .exit)) (now (leads .exit)) (now (sets .exit)) ≡ after (lent (now (next .entry)) (now (free .entry)) (now (numbers .entry)) (now (leads .entry)) (now (sets .entry))) (request-of (now (request .entry)))) ⌝ }
+{
+    let m = step_in_place(*next, *free, numbers, leads, sets, *request);
+    *next = m.next;
+    *free = m.free;
+    let answer = m.answer;
+    (answer.code() as u64) * 4294967296 + (answer.job().0 as u64)
+}
+
+// The fresh state, in what the host keeps.
+#[no_mangle]
+pub extern "C" fn reedtangle_fresh(
+    first: u32,
+    next: &mut u64,
+    free: &mut u32,
+    numbers: &mut [u32; 32],
+    leads: &mut [u32; 32],
+    sets: &mut [u64; 512],
+)
+    ensures { λ _. ⌜ lent (now (next .exit)) (now (free .exit)) (now (numbers .exit)) (now (leads .exit)) (now (sets .exit)) ≡ fresh-held first ⌝ }
+{
+    *next = first as u64;
+    *free = 0xffff_ffff;
+    *numbers = [0; 32];
+    *leads = [0; 32];
+    *sets = [0; 512];
 }

@@ -6,7 +6,7 @@
 -- and what code writes for them: `n & !(1 << s)`, `n & (n - 1)`, `n & (1 << s)`.
 -- Assumes nothing.
 use mathlib.Core.Path.{_≡_, refl, sym, ap, ap₂, _∙_, subst}
-use mathlib.Core.Logic.{⊎-elim}
+use mathlib.Core.Logic.{_⊎_, ⊎-elim}
 use mathlib.Core.Bool.{Bool, true, false, not, _&&_, _||_, cond, and-true, and-false, or-false}
 use mathlib.Core.List.{List, [], _∷_, List·Memᴰ·not-nil, List·Memᴰ·cases-cons}
 use Prim.Native.Nat.{ℕ, zero, suc, _+_, _-_, _*_, _/_, _%_, _^_, _≤_, _<_, suc-le-suc, min, max}
@@ -20,7 +20,7 @@ use lib.Count.{ones, ones-step, under, trailingZeros}
 use lib.Dec.{T, lit<, eqb, eqb·zero-suc, eqb·suc-zero, eqb·suc-suc, eqb-refl}
 use lib.ListN.{length, getD}
 use lib.Pow.{pow-pos, pow-lt}
-use Rattle.graph.specs.Decide.{true-is, false-is, T-and, eq-test, and-test, not-test, own-test, same-test, test-true, test-false}
+use Rattle.graph.specs.Decide.{Decides, true-is, false-is, T-and, eq-test, and-test, or-test, not-test, own-test, same-test, test-true, test-false}
 use Rattle.graph.specs.Lists.{_∈_, here, later, only}
 use Rattle.marks.specs.Marks.{bit, mask-of, without, tab-from, tab, upto}
 
@@ -206,6 +206,22 @@ bit-or = bit-op bitOr max _||_ or-step max-digit
 
 pub bit-and : (a b k : ℕ) → bit (bitAnd a b) k ≡ bit a k && bit b k
 bit-and = bit-op bitAnd min _&&_ and-step min-digit
+
+-- the same as tests: a test that is equal to another decides the same, so a mark of either of two numbers and of both is read as the two marks are
+pub equal-test : {A : Type 0} {a b : Bool} → a ≡ b → Decides b A → Decides a A
+equal-test {A} e d = subst (λ (x : Bool). Decides x A) (sym e) d
+
+pub or-bit : {A B : Type 0} (a b k : ℕ) → Decides (bit a k) A → Decides (bit b k) B → Decides (bit (bitOr a b) k) (A ⊎ B)
+or-bit a b k d e = equal-test (bit-or a b k) (or-test d e)
+
+pub and-bit : {A B : Type 0} (a b k : ℕ) → Decides (bit a k) A → Decides (bit b k) B → Decides (bit (bitAnd a b) k) (A × B)
+and-bit a b k d e = equal-test (bit-and a b k) (and-test d e)
+
+pub either-test : (a b k : ℕ) → Decides (bit (bitOr a b) k) (T (bit a k) ⊎ T (bit b k))
+either-test a b k = or-bit a b k (own-test (bit a k)) (own-test (bit b k))
+
+pub both-test : (a b k : ℕ) → Decides (bit (bitAnd a b) k) (T (bit a k) × T (bit b k))
+both-test a b k = and-bit a b k (own-test (bit a k)) (own-test (bit b k))
 
 -- the complement within w marks has those that n has not
 others-made : (w n : ℕ) → n < 2 ^ suc w → 2 ^ suc w - 1 - n ≡ (2 ^ w - 1 - n / 2) * 2 + digit (not (bit n 0))

@@ -15,9 +15,9 @@ use lib.Dec.{T, eqb}
 use lib.ListN.{length, getD}
 use lib.Pow.{pow-pos}
 use lib.Seq.{ext-getD, getD-set-same, getD-set-other}
-use Rattle.graph.specs.Decide.{Decides, is-false, answer, read-as, same-test, eq-test, own-test, and-test, or-test, not-test, test-false}
+use Rattle.graph.specs.Decide.{Decides, is-false, answer, read-as, same-test, eq-test, and-test, or-test, not-test, test-false}
 use Rattle.graph.specs.Lists.{_∈_, here, later}
-use Rattle.marks.specs.MarkLaws.{bit-or, bit-and, bit-pow, bit-same, bit-nonzero, no-bits, nonzero-bit}
+use Rattle.marks.specs.MarkLaws.{bit-or, both-test, bit-pow, bit-same, bit-nonzero, no-bits, nonzero-bit}
 use Rattle.marks.specs.Marks.{bit}
 use Rattle.marks.specs.Words.{marked, with-mark, union, overlap, empty}
 
@@ -102,10 +102,6 @@ overlap-words (w ∷ ws) (v ∷ vs) = read-as (or-test (not-test (eq-test (bitAn
     into : (i : ℕ) → Meet (w ∷ ws) (v ∷ vs) i → (bitAnd w v ≡ 0 → ⊥) ⊎ ((i : ℕ) × Meet ws vs i)
     into zero m = inl (m .1)
     into (suc i) m = inr (i, (le-of-suc-le-suc (m .0), m .1))
-
--- a mark of what two words have in common is a mark of both
-both-test : (a b k : ℕ) → Decides (bit (bitAnd a b) k) (T (bit a k) × T (bit b k))
-both-test a b k = subst (λ (x : Bool). Decides x (T (bit a k) × T (bit b k))) (sym (bit-and a b k)) (and-test (own-test (bit a k)) (own-test (bit b k)))
 
 -- two sets overlap exactly when some mark is in both
 pub overlap-test : (width : ℕ) (ws vs : List ℕ) → 0 < width → Fit width ws → Fit width vs → length ws ≡ length vs

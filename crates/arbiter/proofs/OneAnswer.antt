@@ -1,0 +1,175 @@
+-- Each contract of the crate's public functions leaves one result: two results that meet it are equal. A theorem for each function, named after it, of the
+-- contract itself: `Post` is what Rattle reads of the function's `ensures`. For the step in place the three arrays at exit are equal too.
+--
+-- A contract gives a part of the result, as the reply that an answer is numbered and the state that the arrays make, from which the whole can be made
+-- again (`one-part`). For an answer that is so since `numbered` can be undone (`answer-back`).
+-- Assumes nothing.
+use mathlib.Core.Path.{_≡_, refl, sym, ap, _∙_}
+use mathlib.Core.Bool.{cond}
+use mathlib.Core.List.{List}
+use lib.Dec.{eqb}
+use contract.Lifetimes.{Lfts}
+use borrow.Fn.Kind.{PK, RK}
+use borrow.Fn.Kinds.{Out, Dens, resT, endedOf}
+use denote.Ref.{now}
+use denote.Triple.Clauses.{AtExit}
+use Rattle.history.specs.Replies.{Reply}
+use Rattle.held.specs.Held.{Held}
+use Prim.Native.Nat.{ℕ}
+use Rattle.arbiter.specs.Lent.{lent, numbered}
+use Rattle.arbiter.specs.Replay.{Written, told}
+use Rattle.arbiter.specs.declared.Replayed.{Replayed}
+use Rattle.arbiter.specs.declared.Replayed.the-variants.{Done, NoRoom}
+use Rattle.arbiter.specs.declared.JobNumber.{JobNumber}
+use Rattle.arbiter.specs.declared.Answer.{Answer}
+use Rattle.arbiter.specs.declared.Answer.the-variants.{Granted, Malformed, NoCell, NotOpen, HasWritten, Full, Spent, Circle}
+use Rattle.arbiter.specs.declared.State.{State}
+use Rattle.arbiter.proofs.Answer.code.Kinds as code-kinds
+use Rattle.arbiter.proofs.Answer.code.Reads as code-reads
+use Rattle.arbiter.proofs.Answer.job.Kinds as job-kinds
+use Rattle.arbiter.proofs.Answer.job.Reads as job-reads
+use Rattle.arbiter.proofs.State.fresh.Kinds as fresh-kinds
+use Rattle.arbiter.proofs.State.fresh.Reads as fresh-reads
+use Rattle.arbiter.proofs.State.step.Kinds as step-kinds
+use Rattle.arbiter.proofs.State.step.Reads as step-reads
+use Rattle.arbiter.proofs.step_in_place.Kinds as in-place-kinds
+use Rattle.arbiter.proofs.step_in_place.Reads as in-place-reads
+use Rattle.arbiter.proofs.Replayed.code.Kinds as replayed-code-kinds
+use Rattle.arbiter.proofs.Replayed.code.Reads as replayed-code-reads
+use Rattle.arbiter.proofs.Replayed.place.Kinds as replayed-place-kinds
+use Rattle.arbiter.proofs.Replayed.place.Reads as replayed-place-reads
+use Rattle.arbiter.proofs.replay.Kinds as replay-kinds
+use Rattle.arbiter.proofs.replay.Reads as replay-reads
+use Rattle.arbiter.proofs.reedtangle_replay.Kinds as export-replay-kinds
+use Rattle.arbiter.proofs.reedtangle_replay.Reads as export-replay-reads
+use Rattle.arbiter.proofs.reedtangle_step.Kinds as export-step-kinds
+use Rattle.arbiter.proofs.reedtangle_step.Reads as export-step-reads
+use Rattle.arbiter.proofs.reedtangle_fresh.Kinds as export-fresh-kinds
+use Rattle.arbiter.proofs.reedtangle_fresh.Reads as export-fresh-reads
+
+-- two results at the same arguments are equal
+abbrev pub One : (ps : List (PK 0)) (r : RK 0) → Out 0 ps r → Type 0
+One ps r P = (κs : Lfts 0) (a : Dens κs ps) (x y : resT r κs .Denot) (s t : AtExit (endedOf 0 ps r) κs) → P κs a x s → P κs a y t → x ≡ y
+
+one-part : {R X : Type 0} (part : R → X) (whole : X → R) → ((r : R) → whole (part r) ≡ r) → {v : X} (r s : R) → part r ≡ v → part s ≡ v → r ≡ s
+one-part part whole back r s p q = sym (back r) ∙ ap whole (p ∙ sym q) ∙ back s
+
+-- ---- answers
+
+-- the answer of a reply
+answer-of : Reply → Answer
+answer-of r =
+    let n = r .code in
+    cond (eqb n 0) (Granted (record { 0 = r .job }))
+    (cond (eqb n 1) Malformed (cond (eqb n 2) NoCell (cond (eqb n 3) NotOpen (cond (eqb n 4) HasWritten (cond (eqb n 5) Full (cond (eqb n 6) Spent Circle))))))
+
+answer-back : (a : Answer) → answer-of (numbered a) ≡ a
+unfolding answer-of
+answer-back (Granted j) = refl
+answer-back Malformed = refl
+answer-back NoCell = refl
+answer-back NotOpen = refl
+answer-back HasWritten = refl
+answer-back Full = refl
+answer-back Spent = refl
+answer-back Circle = refl
+
+-- no two answers have the same number
+one-answer : {v : Reply} (a b : Answer) → numbered a ≡ v → numbered b ≡ v → a ≡ b
+one-answer = one-part numbered answer-of answer-back
+
+pub one-code : One code-kinds.ps code-kinds.r code-reads.Post
+one-code κs a x y s t p q = p ∙ sym q
+
+pub one-job : One job-kinds.ps job-kinds.r job-reads.Post
+one-job κs a x y s t p q = one-part (λ (r : JobNumber). r .0) (λ n. record { 0 = n }) (λ r. refl) x y p q
+
+-- ---- states
+
+-- a state by value is the state that its arrays make
+one-state : {h : Held} (r s : State)
+    → lent (r .next) (r .free) (r .numbers) (r .leads) (r .sets) ≡ h
+    → lent (s .next) (s .free) (s .numbers) (s .leads) (s .sets) ≡ h
+    → r ≡ s
+one-state =
+    one-part (λ (r : State). lent (r .next) (r .free) (r .numbers) (r .leads) (r .sets))
+    (λ h. record { next = h .next; free = h .free; numbers = h .numbers; leads = h .leads; sets = h .sets }) (λ r. refl)
+
+pub one-fresh : One fresh-kinds.ps fresh-kinds.r fresh-reads.Post
+one-fresh κs a x y s t p q = one-state x y p q
+
+-- the step by value: the answer and the state
+pub one-step : One step-kinds.ps step-kinds.r step-reads.Post
+one-step κs a x y s t p q =
+    let answer = one-answer (x .answer) (y .answer) (p .0) (q .0) in
+    let state = one-state (x .state) (y .state) (p .1) (q .1) in
+    λ i. record { state = state i; answer = answer i }
+
+-- the step in place: what it returns, and the three arrays at exit, which are its third, fourth and fifth parameter
+pub one-step-in-place : (κs : Lfts 3) (a : Dens κs in-place-kinds.ps) (x y : resT in-place-kinds.r κs .Denot)
+    (s t : AtExit (endedOf 3 in-place-kinds.ps in-place-kinds.r) κs)
+    → in-place-reads.Post κs a x s
+    → in-place-reads.Post κs a y t
+    → (x ≡ y) × (now (s .1 .1 .0) ≡ now (t .1 .1 .0)) × (now (s .1 .1 .1 .0) ≡ now (t .1 .1 .1 .0)) × (now (s .1 .1 .1 .1 .0) ≡ now (t .1 .1 .1 .1 .0))
+one-step-in-place κs a x y s t p q =
+    let answer = one-answer (x .answer) (y .answer) (p .answered) (q .answered) in
+    let left = p .left ∙ sym (q .left) in
+    (λ i. record { next = left i .next; free = left i .free; answer = answer i }, λ i. left i .numbers, λ i. left i .leads, λ i. left i .sets)
+
+-- ---- runs of requests
+
+pub one-replayed-code : One replayed-code-kinds.ps replayed-code-kinds.r replayed-code-reads.Post
+one-replayed-code κs a x y s t p q = p ∙ sym q
+
+pub one-replayed-place : One replayed-place-kinds.ps replayed-place-kinds.r replayed-place-reads.Post
+one-replayed-place κs a x y s t p q = p ∙ sym q
+
+-- the answer of a run, from its code and place
+run-of : Written → Replayed
+run-of w = cond (eqb (w .code) 0) (Done (w .place)) NoRoom
+
+run-back : (r : Replayed) (l : List ℕ) → run-of (told r l) ≡ r
+unfolding run-of
+run-back (Done n) l = refl
+run-back NoRoom l = refl
+
+told-bytes : (r : Replayed) (l : List ℕ) → told r l .bytes ≡ l
+told-bytes (Done n) l = refl
+told-bytes NoRoom l = refl
+
+-- a run: what it returns, and the answers at exit, its third parameter
+pub one-replay : (κs : Lfts 2) (a : Dens κs replay-kinds.ps) (x y : resT replay-kinds.r κs .Denot) (s t : AtExit (endedOf 2 replay-kinds.ps replay-kinds.r) κs)
+    → replay-reads.Post κs a x s
+    → replay-reads.Post κs a y t
+    → (x ≡ y) × (now (s .1 .1 .0) ≡ now (t .1 .1 .0))
+one-replay κs a x y s t p q =
+    let same = p ∙ sym q in (
+      sym (run-back x (now (s .1 .1 .0))) ∙ ap run-of same ∙ run-back y (now (t .1 .1 .0)),
+      sym (told-bytes x (now (s .1 .1 .0))) ∙ ap (λ (w : Written). w .bytes) same ∙ told-bytes y (now (t .1 .1 .0)),
+    )
+
+-- ---- what C and Rust link: the result, and every lent number and array at exit
+
+pub one-export-replay : (κs : Lfts 3) (a : Dens κs export-replay-kinds.ps) (x y : resT export-replay-kinds.r κs .Denot)
+    (s t : AtExit (endedOf 3 export-replay-kinds.ps export-replay-kinds.r) κs)
+    → export-replay-reads.Post κs a x s
+    → export-replay-reads.Post κs a y t
+    → (x ≡ y) × (now (s .1 .1 .0) ≡ now (t .1 .1 .0)) × (now (s .1 .1 .1 .0) ≡ now (t .1 .1 .1 .0))
+one-export-replay κs a x y s t p q = let same = p ∙ sym q in (λ i. same i .code, λ i. same i .bytes, λ i. same i .place)
+
+pub one-export-step : (κs : Lfts 6) (a : Dens κs export-step-kinds.ps) (x y : resT export-step-kinds.r κs .Denot)
+    (s t : AtExit (endedOf 6 export-step-kinds.ps export-step-kinds.r) κs)
+    → export-step-reads.Post κs a x s
+    → export-step-reads.Post κs a y t
+    → (x ≡ y) × (now (s .0) ≡ now (t .0)) × (now (s .1 .0) ≡ now (t .1 .0)) × (now (s .1 .1 .0) ≡ now (t .1 .1 .0)) × (now (s .1 .1 .1 .0) ≡ now (t .1 .1 .1 .0)) × (now (s .1 .1 .1 .1 .0) ≡ now (t .1 .1 .1 .1 .0))
+one-export-step κs a x y s t p q =
+    let left = p .1 ∙ sym (q .1) in
+    (p .0 ∙ sym (q .0), λ i. left i .next, λ i. left i .free, λ i. left i .numbers, λ i. left i .leads, λ i. left i .sets)
+
+pub one-export-fresh : (κs : Lfts 5) (a : Dens κs export-fresh-kinds.ps) (x y : resT export-fresh-kinds.r κs .Denot)
+    (s t : AtExit (endedOf 5 export-fresh-kinds.ps export-fresh-kinds.r) κs)
+    → export-fresh-reads.Post κs a x s
+    → export-fresh-reads.Post κs a y t
+    → (now (s .1 .0) ≡ now (t .1 .0)) × (now (s .1 .1 .0) ≡ now (t .1 .1 .0)) × (now (s .1 .1 .1 .0) ≡ now (t .1 .1 .1 .0)) × (now (s .1 .1 .1 .1 .0) ≡ now (t .1 .1 .1 .1 .0)) × (now (s .1 .1 .1 .1 .1 .0) ≡ now (t .1 .1 .1 .1 .1 .0))
+one-export-fresh κs a x y s t p q =
+    let left = p ∙ sym q in (λ i. left i .next, λ i. left i .free, λ i. left i .numbers, λ i. left i .leads, λ i. left i .sets)
