@@ -1,0 +1,2 @@
+mod PutLaws
+mod RunLaws

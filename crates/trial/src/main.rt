@@ -1,0 +1,94 @@
+// The trial program: request records from standard input to its end, and a line for each on standard output. It reads into what is left of 64 KiB behind
+// the bytes that wait, and answers them once there are 32 KiB, or at the end.
+ghost use mathlib.Core.Path.{_≡_};
+ghost use Prim.Native.Nat.{_+_, _≤_};
+ghost use lib.ListN.{length, take, drop};
+use arbiter::JobNumber;
+use arbiter::State;
+
+// One read behind the bytes that wait: how many came, 0 at the end or where the read failed.
+fn read_behind(buf: &mut [u8], from: usize) -> usize
+    requires { ⌜ from ≤ length (now buf) ⌝ }
+    ensures { λ r. ⌜ from + r ≤ length (now (buf .entry)) ⌝ }
+{
+    let part = &mut buf[from..];
+    let got = libc::read(0, part);
+    io::count(got, part)
+}
+
+// Copies count bytes to the start.
+fn to_start(buf: &mut [u8], from: usize, count: usize)
+    requires { ⌜ from + count ≤ length (now buf) ⌝ }
+    ensures { λ _. ⌜ take count (now (buf .exit)) ≡ take count (drop from (now (buf .entry))) ⌝ }
+{
+    let mut i: usize = 0;
+    while i < count {
+        buf[i] = buf[from + i];
+        i += 1;
+    }
+}
+
+fn run(
+    first: u64,
+    slots: u32,
+    numbers: &mut [u32; 32],
+    leads: &mut [u32; 32],
+    sets: &mut [u64; 512],
+    buf: &mut [u8],
+    out: &mut [u8],
+) {
+    let n = lines::header(out);
+    if !io::write_all(1, &out[..n]) {
+        return;
+    }
+    let mut next = first;
+    let mut free = slots;
+    let mut place: u64 = 0;
+    let mut waiting: usize = 0;
+    // No input outlives so many turns.
+    let mut turns: u64 = 4611686018427387904;
+    let mut more = true;
+    while more && turns > 0 {
+        turns -= 1;
+        let got = read_behind(buf, waiting);
+        waiting += got;
+        more = got > 0;
+        if !more || 32768 <= waiting {
+            let left = waiting % 8;
+            let whole = waiting - left;
+            let done = lines::lines(place, next, free, numbers, leads, sets, &buf[..whole], out);
+            if !done.room {
+                return;
+            }
+            let bytes = done.bytes;
+            if !io::write_all(1, &out[..bytes]) {
+                return;
+            }
+            next = done.next;
+            free = done.free;
+            place += (whole / 8) as u64;
+            to_start(buf, whole, left);
+            waiting = left;
+        }
+    }
+    let last = lines::tail(waiting as u64, out);
+    io::write_all(1, &out[..last]);
+}
+
+fn main() {
+    let state = State::fresh(JobNumber(1));
+    let mut numbers = state.numbers;
+    let mut leads = state.leads;
+    let mut sets = state.sets;
+    let mut space = io::large_buffer();
+    let mut room = [0u8; 360448];
+    run(
+        state.next,
+        state.free,
+        &mut numbers,
+        &mut leads,
+        &mut sets,
+        &mut space,
+        &mut room,
+    );
+}
