@@ -1,6 +1,6 @@
 -- Computed tables of the held rule: the cases of the full history (`held-cases`); histories of our own that show the slots and the order of the
--- codes (`own-histories`); states that no requests give, with the answer to a request (`made-up-answers`) and the next state to its last word
--- (`made-up-states`).
+-- codes (`own-histories`); states that no requests give, with the answer to a request (`made-up-answers`) and the next state (`made-up-rows`; to
+-- its last word in crate `made`).
 --
 -- A made-up state is written as what it means: the next number, the open slots, and for the lowest slots a row, open or not, of a number, the slots
 -- led to and the cells of the four sets; the rows of the other slots are blank.
@@ -10,14 +10,14 @@ use mathlib.Core.Logic.{⊎-elim}
 use mathlib.Core.Bool.{not}
 use mathlib.Core.Option.{Option, none, some}
 use mathlib.Core.List.{List, [], _∷_, _++_, map, List·Memᴰ·append-cases}
-use Prim.Native.Nat.{ℕ, zero, suc, _+_, _-_, _*_}
-use lib.ListN.{length, replicate}
+use Prim.Native.Nat.{ℕ, _+_, _-_, _*_}
+use lib.ListN.{length, replicate, take}
 use Rattle.graph.specs.Lists.{_∈_}
 use Rattle.marks.specs.Marks.{bit, mask-of, without, tab}
 use Rattle.history.specs.Events.{has}
 use Rattle.history.specs.Replies.{most-open, Request, Reply, want, tests, code-of, job-of, reply-of}
 use Rattle.history.specs.Memory.{meets}
-use Rattle.history.specs.Cases.{open-one, reads, writes, end, abandon, granted, refused, Exchange, _gets_, Case, requests-of, replies-of, p-table, own-table, rows}
+use Rattle.history.specs.Cases.{open-one, reads, writes, end, abandon, granted, refused, Exchange, _gets_, opens-from, Case, requests-of, replies-of, p-table, own-table, rows}
 use Rattle.held.specs.Held.{Held, word-marks, set-words, row-words, all-words, fresh-held, number-at, leads-at, word-at, open-at, open-slots, cell-at, slot-of, touched, chain-back, altered, facts, opened-at, stepped-at, left-at, ended-at, abandoned-at, free-slot, moved, answer-to, after, answers, after-all}
 
 -- ---- the cases of the full history
@@ -67,11 +67,6 @@ seen t =
 -- any four fields as a request
 abbrev pub request : ℕ → ℕ → ℕ → ℕ → Request
 request k b c j = record { kind = k; byte1 = b; cell = c; job = j }
-
--- n opens, granted the numbers from j on
-abbrev pub opens-from : ℕ → ℕ → List Exchange
-opens-from zero j = []
-opens-from (suc n) j = open-one gets granted j ∷ opens-from n (suc j)
 
 -- 32 opens take the slots in order and the 33rd is refused; the slot of job 6 is free when it has ended, and the next job takes it
 abbrev pub all-slots : Tried
@@ -213,6 +208,10 @@ made-up-answer m = answer-to (held-of (m .before)) (m .asked)
 unfoldable pub made-up-next : MadeUp → Held
 unfolding held-answers
 made-up-next m = after (held-of (m .before)) (m .asked)
+
+-- a state cut down to the words of its first six rows
+abbrev pub first-rows : Held → Held
+first-rows h = record { next = h .next; free = h .free; numbers = h .numbers; leads = h .leads; sets = take (6 * row-words) (h .sets) }
 
 -- a refusal leaves the state
 abbrev pub refusal : State → Request → ℕ → MadeUp
@@ -393,7 +392,10 @@ pub made-up-answers : (m : MadeUp) → m ∈ made-up-table → answer-to (held-o
 unfolding made-up-answer
 made-up-answers m = rows made-up-answer (λ m. m .answered) (refl, (refl, (refl, (refl, (refl, (refl, (refl, (refl, (refl, (refl, (refl, (refl, (refl, (refl, (refl, (refl, (refl, tt)))))))))))))))))
 
--- and leaves the next state as written, to the last word
-pub made-up-states : (m : MadeUp) → m ∈ made-up-table → after (held-of (m .before)) (m .asked) ≡ held-of (m .left)
+-- and leaves the next state as written: the next number, the free slots, every number, every lead, and the words of the first six rows. No row of the
+-- table uses a slot above 4. The whole 512 words are compared in crate `made` (`made-up-states`), apart, so that an edit of the rule is refused sooner
+pub made-up-rows : (m : MadeUp) → m ∈ made-up-table → first-rows (after (held-of (m .before)) (m .asked)) ≡ first-rows (held-of (m .left))
 unfolding made-up-next
-made-up-states m = rows made-up-next (λ m. held-of (m .left)) (refl, (refl, (refl, (refl, (refl, (refl, (refl, (refl, (refl, (refl, (refl, (refl, (refl, (refl, (refl, (refl, (refl, tt)))))))))))))))))
+made-up-rows m =
+    rows (λ m. first-rows (made-up-next m)) (λ m. first-rows (held-of (m .left)))
+    (refl, (refl, (refl, (refl, (refl, (refl, (refl, (refl, (refl, (refl, (refl, (refl, (refl, (refl, (refl, (refl, (refl, tt)))))))))))))))))

@@ -8,8 +8,8 @@
 use mathlib.Core.Path.{_≡_, refl, sym, ap, _∙_}
 use mathlib.Core.Bool.{Bool, true, false}
 use mathlib.Core.Option.{Option, none, some}
-use mathlib.Core.List.{List, [], _∷_, map, List·Memᴰ·head, List·Memᴰ·tail}
-use Prim.Native.Nat.{ℕ}
+use mathlib.Core.List.{List, [], _∷_, _++_, map, List·Memᴰ·head, List·Memᴰ·tail}
+use Prim.Native.Nat.{ℕ, zero, suc}
 use Rattle.graph.specs.Lists.{_∈_, strike}
 use Rattle.graph.specs.Reach.{circular}
 use Rattle.graph.specs.Listing.{ready, lowest-first, forced}
@@ -51,6 +51,11 @@ pub record Exchange : Type 0 where
 infix 70 _gets_
 abbrev pub _gets_ : Request → Reply → Exchange
 r gets a = record { asked = r; answered = a }
+
+-- n opens, granted the numbers from j on
+abbrev pub opens-from : ℕ → ℕ → List Exchange
+opens-from zero j = []
+opens-from (suc n) j = open-one gets granted j ∷ opens-from n (suc j)
 
 -- ---- what is expected of a case, and what is computed
 
@@ -328,3 +333,14 @@ own-table = past-of-ended ∷ leads-of-ended ∷ chain-abandoned ∷ reads-alone
 pub own-cases : (c : Case) → c ∈ own-table → computed c ≡ expected c
 unfolding computed
 own-cases c = rows computed expected (refl, (refl, (refl, (refl, (refl, tt)))))
+
+-- ---- 6 before 5
+
+-- 32 opens up to the last number, and one more: there is neither a number left nor a slot, and the answer is 6
+abbrev pub full-and-spent : List Exchange
+full-and-spent = opens-from 32 4_294_967_264 ++ open-one gets refused 6 ∷ []
+
+-- the full history's replies are these
+pub numbers-before-slots : replies 4_294_967_264 (map (λ e. e .asked) full-and-spent) ≡ map (λ e. e .answered) full-and-spent
+unfolding reply reply-of code-of tests want job-of full after granted-of event-of opened ended abandoned kept open-now
+numbers-before-slots = refl

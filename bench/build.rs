@@ -1,0 +1,13 @@
+// The proved libraries, one archive a crate, as `rt staticlib NAME` writes them.
+fn main() {
+    let top = std::path::Path::new(&std::env::var("CARGO_MANIFEST_DIR").unwrap())
+        .parent()
+        .unwrap()
+        .join("target/staticlib");
+    println!("cargo:rustc-link-search=native={}", top.display());
+    println!("cargo:rustc-link-lib=static=arbiter");
+    println!(
+        "cargo:rerun-if-changed={}",
+        top.join("libarbiter.a").display()
+    );
+}

@@ -1,0 +1,220 @@
+//! An arbiter in bounded memory, in place, written apart from the project's own and tuned: beside each row's four sets it keeps two
+//! unions, what a read clashes with and what a write clashes with, word by word for all rows side by side.
+use crate::requests::*;
+
+pub const ROWS: usize = 32;
+
+#[derive(Clone, PartialEq)]
+pub struct Bounded {
+    pub next: u64,
+    pub free: u32,
+    pub numbers: [u32; ROWS],
+    pub leads: [u32; ROWS],
+    /// own reads, own writes, past reads, past writes: four words each
+    pub rows: [[u64; 16]; ROWS],
+    /// for a read: writes, own and past; for a write: everything
+    clash: [[[u64; ROWS]; 4]; 2],
+}
+
+fn all(bits: u32) -> impl Iterator<Item = usize> {
+    let mut left = bits;
+    std::iter::from_fn(move || {
+        if left == 0 {
+            return None;
+        }
+        let i = left.trailing_zeros() as usize;
+        left &= left - 1;
+        Some(i)
+    })
+}
+
+impl Bounded {
+    pub fn new(first: u32) -> Bounded {
+        Bounded {
+            next: first as u64,
+            free: !0,
+            numbers: [0; ROWS],
+            leads: [0; ROWS],
+            rows: [[0; 16]; ROWS],
+            clash: [[[0; ROWS]; 4]; 2],
+        }
+    }
+
+    /// Any state: what the arrays hold, whether requests give it or not.
+    pub fn of(
+        next: u64,
+        free: u32,
+        numbers: [u32; ROWS],
+        leads: [u32; ROWS],
+        sets: &[u64; 512],
+    ) -> Bounded {
+        let mut b = Bounded {
+            next,
+            free,
+            numbers,
+            leads,
+            rows: [[0; 16]; ROWS],
+            clash: [[[0; ROWS]; 4]; 2],
+        };
+        for i in 0..ROWS {
+            b.rows[i].copy_from_slice(&sets[i * 16..i * 16 + 16]);
+            b.unions(i);
+        }
+        b
+    }
+
+    pub fn sets(&self) -> [u64; 512] {
+        let mut s = [0; 512];
+        for i in 0..ROWS {
+            s[i * 16..i * 16 + 16].copy_from_slice(&self.rows[i]);
+        }
+        s
+    }
+
+    #[inline]
+    fn unions(&mut self, i: usize) {
+        let r = &self.rows[i];
+        for w in 0..4 {
+            let writes = r[4 + w] | r[12 + w];
+            self.clash[0][w][i] = writes;
+            self.clash[1][w][i] = writes | r[w] | r[8 + w];
+        }
+    }
+
+    #[inline]
+    fn slot(&self, job: u32) -> Option<usize> {
+        all(!self.free).find(|&i| self.numbers[i] == job)
+    }
+
+    #[inline]
+    fn touched(&self, s: usize, cell: usize, write: bool) -> u32 {
+        let (w, b) = (cell / 64, cell % 64);
+        let column = &self.clash[write as usize][w];
+        let open = !self.free;
+        let mut found = 0u32;
+        if open.count_ones() < 14 {
+            for i in all(open & !(1 << s)) {
+                found |= (((column[i] >> b) & 1) as u32) << i;
+            }
+        } else {
+            for i in 0..ROWS {
+                found |= (((column[i] >> b) & 1) as u32) << i;
+            }
+            found &= open & !(1 << s);
+        }
+        let r = &self.rows[s];
+        let past = r[12 + w] | if write { r[8 + w] } else { 0 };
+        found | ((((past >> b) & 1) as u32) << s)
+    }
+
+    #[inline]
+    fn reached(&self, s: usize) -> u32 {
+        let open = !self.free;
+        let mut seen = self.leads[s] & open;
+        let mut todo = seen;
+        while todo != 0 {
+            let i = todo.trailing_zeros() as usize;
+            let fresh = self.leads[i] & open & !seen;
+            seen |= fresh;
+            todo = (todo & (todo - 1)) | fresh;
+        }
+        seen
+    }
+
+    #[inline]
+    fn blank(&mut self, s: usize) {
+        for l in self.leads.iter_mut() {
+            *l &= !(1 << s);
+        }
+        self.leads[s] = 0;
+        self.rows[s] = [0; 16];
+        for w in 0..4 {
+            self.clash[0][w][s] = 0;
+            self.clash[1][w][s] = 0;
+        }
+    }
+
+    #[inline]
+    pub fn ask(&mut self, r: Request) -> (u32, u32) {
+        if r[1] != 0 {
+            return (1, 0);
+        }
+        let (cell, job) = (cell_of(r), job_of(r));
+        match r[0] {
+            OPEN => {
+                if self.next > u32::MAX as u64 {
+                    return (6, 0);
+                }
+                if self.free == 0 {
+                    return (5, 0);
+                }
+                let s = self.free.trailing_zeros() as usize;
+                let number = self.next as u32;
+                self.blank(s);
+                self.numbers[s] = number;
+                self.next += 1;
+                self.free &= !(1 << s);
+                (0, number)
+            }
+            READ | WRITE => {
+                if cell > 255 {
+                    return (2, 0);
+                }
+                let Some(s) = self.slot(job) else {
+                    return (3, 0);
+                };
+                let write = r[0] == WRITE;
+                let touched = self.touched(s, cell as usize, write);
+                let seen = self.reached(s);
+                let me = 1u32 << s;
+                if seen & me != 0 || touched & (seen | me) != 0 {
+                    return (7, 0);
+                }
+                for i in all(touched) {
+                    self.leads[i] |= me;
+                }
+                let (w, m) = (cell as usize / 64, 1u64 << (cell % 64));
+                self.rows[s][w + if write { 4 } else { 0 }] |= m;
+                self.clash[1][w][s] |= m;
+                if write {
+                    self.clash[0][w][s] |= m;
+                }
+                (0, job)
+            }
+            END => {
+                let Some(s) = self.slot(job) else {
+                    return (3, 0);
+                };
+                let open = !self.free;
+                let theirs = self.leads[s] & open;
+                let gone = self.rows[s];
+                for i in all(open & !(1 << s)) {
+                    if self.leads[i] >> s & 1 == 1 {
+                        for w in 0..8 {
+                            self.rows[i][8 + w] |= gone[w] | gone[8 + w];
+                        }
+                        self.leads[i] |= theirs;
+                        self.unions(i);
+                    }
+                }
+                self.blank(s);
+                self.numbers[s] = 0;
+                self.free |= 1 << s;
+                (0, job)
+            }
+            ABANDON => {
+                let Some(s) = self.slot(job) else {
+                    return (3, 0);
+                };
+                if self.rows[s][4..8].iter().any(|&w| w != 0) {
+                    return (4, 0);
+                }
+                self.blank(s);
+                self.numbers[s] = 0;
+                self.free |= 1 << s;
+                (0, job)
+            }
+            _ => (1, 0),
+        }
+    }
+}

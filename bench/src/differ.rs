@@ -1,0 +1,227 @@
+//! Random requests: the proved arbiter, step by step and by replay, against an arbiter that keeps the whole history (in windows that it can afford) and a
+//! bounded one; and made-up states, lent to the step, against the bounded one's reading of the same rule. Counts of each code, so that nothing is vacuous.
+use crate::bounded::Bounded;
+use crate::ours::{replay, Ours};
+use crate::requests::*;
+use crate::whole::Whole;
+
+/// A whole history is compared for so many requests, from a fresh state.
+const WINDOW: u64 = 300;
+
+#[derive(Default)]
+struct Tally {
+    requests: u64,
+    codes: [u64; 8],
+    through_ended: u64,
+    differ: u64,
+}
+
+fn same_state(o: &Ours, b: &Bounded) -> bool {
+    o.next == b.next
+        && o.free == b.free
+        && o.numbers == b.numbers
+        && o.leads == b.leads
+        && o.sets == b.sets()
+}
+
+/// Windows against the whole history.
+fn windows(shape: Shape, seed: u64, requests: u64) -> Tally {
+    let mut t = Tally::default();
+    let mut window = 0;
+    while t.requests < requests {
+        let mut s = Stream::new(shape, seed.wrapping_mul(1_000_003) + window);
+        window += 1;
+        let first = s.first();
+        let (mut w, mut b, mut o) = (Whole::new(first), Bounded::new(first), Ours::new(first));
+        let mut sent = Vec::new();
+        let mut said = Vec::new();
+        for _ in 0..WINDOW {
+            let r = s.ask();
+            let reply = w.ask(r);
+            s.told(reply.0, reply.1);
+            t.requests += 1;
+            t.codes[reply.0 as usize] += 1;
+            if b.ask(r) != reply || o.ask(r) != reply || !same_state(&o, &b) {
+                t.differ += 1;
+            }
+            sent.extend_from_slice(&r);
+            said.extend_from_slice(&reply.0.to_le_bytes());
+            said.extend_from_slice(&reply.1.to_le_bytes());
+        }
+        t.through_ended += w.through_ended;
+        if !replayed(first, &sent, &said) {
+            t.differ += 1;
+        }
+    }
+    t
+}
+
+/// `replay` writes what was said, with room to spare and with a tail of bytes that are no record, and nothing where the room is one byte short.
+fn replayed(first: u32, sent: &[u8], said: &[u8]) -> bool {
+    let mut with_tail = sent.to_vec();
+    with_tail.extend_from_slice(&[1, 0, 0]);
+    let mut out = vec![0xaa; said.len() + 5];
+    let done = replay(first, &with_tail, &mut out) == (0, said.len() as u64)
+        && out[..said.len()] == *said
+        && out[said.len()..].iter().all(|&x| x == 0xaa);
+    let mut short = vec![0xaa; said.len() - 1];
+    done && replay(first, &with_tail, &mut short) == (24, 0) && short.iter().all(|&x| x == 0xaa)
+}
+
+/// Long streams against the bounded arbiter.
+fn long(shape: Shape, seed: u64, requests: u64) -> Tally {
+    let mut t = Tally::default();
+    let mut s = Stream::new(shape, seed.wrapping_mul(7_000_003));
+    let mut first = s.first();
+    let (mut b, mut o) = (Bounded::new(first), Ours::new(first));
+    while t.requests < requests {
+        let r = s.ask();
+        let reply = b.ask(r);
+        s.told(reply.0, reply.1);
+        t.requests += 1;
+        t.codes[reply.0 as usize] += 1;
+        if o.ask(r) != reply || (t.requests % 64 == 0 && !same_state(&o, &b)) {
+            t.differ += 1;
+        }
+        // numbers run out soon: start again
+        if shape == Shape::NumbersOut && t.requests % 2000 == 0 {
+            s = Stream::new(shape, seed.wrapping_mul(7_000_003) + t.requests);
+            first = s.first();
+            b = Bounded::new(first);
+            o = Ours::new(first);
+        }
+    }
+    t
+}
+
+/// States of any content, one request each.
+fn made_up(seed: u64, states: u64) -> Tally {
+    let mut t = Tally::default();
+    let mut r = Random::new(seed.wrapping_mul(11_000_003));
+    let mut numbers = [0u32; 32];
+    let mut leads = [0u32; 32];
+    let mut sets = Box::new([0u64; 512]);
+    for _ in 0..states {
+        // dense or sparse, numbers from a few so that some stand in two slots
+        let few = 1 + r.below(40);
+        let thin = r.below(6);
+        for i in 0..32 {
+            numbers[i] = if r.one_in(30) {
+                r.next() as u32
+            } else {
+                r.below(few) as u32
+            };
+            let mut l = r.next() as u32;
+            for _ in 0..thin {
+                l &= r.next() as u32;
+            }
+            leads[i] = l;
+        }
+        let full = r.one_in(8);
+        for w in sets.iter_mut() {
+            *w = if full {
+                r.next()
+            } else if r.one_in(16) {
+                1u64 << r.below(64)
+            } else {
+                0
+            };
+        }
+        let free = match r.below(4) {
+            0 => r.next() as u32,
+            1 => !(r.next() as u32 & r.next() as u32),
+            2 => r.next() as u32 & r.next() as u32 & r.next() as u32,
+            _ => 0,
+        };
+        let next = match r.below(5) {
+            0 => r.next(),
+            1 => (1 << 32) - 1 + r.below(3),
+            2 => u64::MAX - r.below(2),
+            _ => r.below(1000),
+        };
+        let kind = 1 + r.below(5) as u8;
+        let mut b = Bounded::of(next, free, numbers, leads, &sets);
+        let mut o = Ours {
+            next,
+            free,
+            numbers,
+            leads,
+            sets: *sets,
+        };
+        let open: Vec<usize> = (0..32).filter(|i| free >> i & 1 == 0).collect();
+        let job = if open.is_empty() || r.one_in(10) {
+            r.below(few) as u32
+        } else {
+            numbers[open[r.below(open.len() as u64) as usize]]
+        };
+        let q = request(
+            kind,
+            if r.one_in(50) { 1 } else { 0 },
+            if r.one_in(20) {
+                r.next() as u16
+            } else {
+                r.below(256) as u16
+            },
+            job,
+        );
+        let reply = b.ask(q);
+        t.requests += 1;
+        t.codes[reply.0 as usize] += 1;
+        if o.ask(q) != reply || !same_state(&o, &b) {
+            t.differ += 1;
+        }
+    }
+    t
+}
+
+fn show(name: &str, t: &Tally) {
+    print!("{name}: {} requests, codes", t.requests);
+    for c in t.codes {
+        print!(" {c}");
+    }
+    println!(
+        ", {} circles through an ended job, {} differ",
+        t.through_ended, t.differ
+    );
+}
+
+pub fn run(seed: u64, requests: u64) -> bool {
+    println!("seed {seed}");
+    let mut failed = 0;
+    let mut passed = 0;
+    let mut codes = [0u64; 8];
+    let mut total = 0;
+    let mut count = |name: String, t: Tally| {
+        show(&name, &t);
+        total += t.requests;
+        for (sum, n) in codes.iter_mut().zip(t.codes) {
+            *sum += n;
+        }
+        if t.differ == 0 {
+            passed += 1
+        } else {
+            failed += 1
+        }
+    };
+    let share = requests / SHAPES.len() as u64;
+    for shape in SHAPES {
+        count(
+            format!("whole history, {shape:?}"),
+            windows(shape, seed, share / 20),
+        );
+        count(
+            format!("bounded, {shape:?}"),
+            long(shape, seed, share - share / 20),
+        );
+    }
+    count("made-up states".to_string(), made_up(seed, requests / 10));
+    println!("{total} requests in all, codes {codes:?}");
+    if codes.iter().any(|&n| n == 0) {
+        println!("a code was never given");
+        failed += 1;
+    } else {
+        passed += 1;
+    }
+    println!("{passed} passed, {failed} failed");
+    failed != 0
+}

@@ -1,0 +1,29 @@
+//! The second witness and the figures, outside the gate. README names the commands.
+mod bounded;
+mod differ;
+mod ours;
+mod requests;
+mod speed;
+mod tried;
+mod whole;
+
+fn main() {
+    let words: Vec<String> = std::env::args().skip(1).collect();
+    let number =
+        |i: usize, other: u64| words.get(i).map_or(other, |w| w.parse().expect("a number"));
+    let failed = match words.first().map(String::as_str) {
+        Some("differ") => differ::run(number(1, 1), number(2, 10_000_000)),
+        Some("tried") => tried::run(words.get(1).expect("the file of tried histories")),
+        Some("speed") => speed::run(number(1, 1_000_000)),
+        Some("count") => speed::count(
+            words.get(1).map_or("ours", |w| w),
+            number(2, 8),
+            number(3, 100_000),
+        ),
+        _ => {
+            eprintln!("bench differ [SEED [REQUESTS]] | tried FILE | speed [REQUESTS] | count ours|rust OPEN REQUESTS");
+            true
+        }
+    };
+    std::process::exit(failed as i32);
+}
