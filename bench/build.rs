@@ -5,9 +5,11 @@ fn main() {
         .unwrap()
         .join("target/staticlib");
     println!("cargo:rustc-link-search=native={}", top.display());
-    println!("cargo:rustc-link-lib=static=arbiter");
-    println!(
-        "cargo:rerun-if-changed={}",
-        top.join("libarbiter.a").display()
-    );
+    for name in ["arbiter", "orders"] {
+        println!("cargo:rustc-link-lib=static={name}");
+        println!(
+            "cargo:rerun-if-changed={}",
+            top.join(format!("lib{name}.a")).display()
+        );
+    }
 }

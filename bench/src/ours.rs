@@ -1,4 +1,5 @@
 //! The proved arbiter, as a host links it. A lent slice is a pointer and a length.
+use crate::judge::Verdict;
 use crate::requests::Request;
 
 extern "C" {
@@ -18,6 +19,13 @@ extern "C" {
         sets: *mut [u64; 512],
         request: *const Request,
     ) -> u64;
+    fn reedtangle_check_order(
+        log: *const u8,
+        length: usize,
+        order: *const u32,
+        entries: usize,
+    ) -> u64;
+    fn reedtangle_list_order(log: *const u8, length: usize, out: *mut u32, room: usize) -> u64;
     fn reedtangle_fresh(
         first: u32,
         next: *mut u64,
@@ -90,4 +98,22 @@ pub fn replay(first: u32, requests: &[u8], answers: &mut [u8]) -> (u32, u64) {
         )
     };
     (code, written)
+}
+
+/// Code and place.
+pub fn check(log: &[u8], order: &[u32]) -> Verdict {
+    let x = unsafe { reedtangle_check_order(log.as_ptr(), log.len(), order.as_ptr(), order.len()) };
+    Verdict {
+        code: (x >> 32) as u32,
+        place: x as u32 as usize,
+    }
+}
+
+/// Code and place; the order in `out`.
+pub fn list(log: &[u8], out: &mut [u32]) -> Verdict {
+    let x = unsafe { reedtangle_list_order(log.as_ptr(), log.len(), out.as_mut_ptr(), out.len()) };
+    Verdict {
+        code: (x >> 32) as u32,
+        place: x as u32 as usize,
+    }
 }

@@ -5,7 +5,7 @@ use crate::requests::*;
 use std::time::Instant;
 
 /// A stream with so many jobs open nearly always: reads and writes on 200 cells, an end and an open now and then.
-fn stream(open: u64, requests: u64) -> Vec<u8> {
+pub fn stream(open: u64, requests: u64) -> Vec<u8> {
     let mut r = Random::new(open * 17 + 1);
     let mut b = Bounded::new(1);
     let mut jobs: Vec<u32> = vec![];
@@ -33,11 +33,11 @@ fn stream(open: u64, requests: u64) -> Vec<u8> {
     bytes
 }
 
-fn by_replay(bytes: &[u8], out: &mut [u8]) {
+pub fn by_replay(bytes: &[u8], out: &mut [u8]) {
     assert_eq!(replay(1, bytes, out).0, 0);
 }
 
-fn by_step(bytes: &[u8], out: &mut [u8]) {
+pub fn by_step(bytes: &[u8], out: &mut [u8]) {
     let mut o = Ours::new(1);
     for (q, a) in bytes.chunks_exact(8).zip(out.chunks_exact_mut(8)) {
         let (code, job) = o.ask(q.try_into().unwrap());
@@ -46,7 +46,7 @@ fn by_step(bytes: &[u8], out: &mut [u8]) {
     }
 }
 
-fn by_rust(bytes: &[u8], out: &mut [u8]) {
+pub fn by_rust(bytes: &[u8], out: &mut [u8]) {
     let mut b = Bounded::new(1);
     for (q, a) in bytes.chunks_exact(8).zip(out.chunks_exact_mut(8)) {
         let (code, job) = b.ask(q.try_into().unwrap());
@@ -55,13 +55,13 @@ fn by_rust(bytes: &[u8], out: &mut [u8]) {
     }
 }
 
-fn timed(f: fn(&[u8], &mut [u8]), bytes: &[u8], out: &mut [u8]) -> f64 {
+pub fn timed(f: fn(&[u8], &mut [u8]), bytes: &[u8], out: &mut [u8]) -> f64 {
     let start = Instant::now();
     f(bytes, out);
     start.elapsed().as_nanos() as f64 / (bytes.len() / 8) as f64
 }
 
-fn median(mut v: Vec<f64>) -> f64 {
+pub fn median(mut v: Vec<f64>) -> f64 {
     v.sort_by(|a, b| a.partial_cmp(b).unwrap());
     v[v.len() / 2]
 }
@@ -101,5 +101,42 @@ pub fn count(side: &str, open: u64, requests: u64) -> bool {
         _ => {}
     }
     println!("{}", out.iter().map(|&b| b as u64).sum::<u64>());
+    false
+}
+
+/// One check or listing of a log of a kind, so many times, for an instruction counter.
+pub fn orders(side: &str, kind: &str, times: u64) -> bool {
+    use crate::{judge, logs, ours};
+    let mut r = Random::new(5);
+    let log = match kind {
+        "sparse" => logs::granted(&mut r, 4096, 512, 32, 256, false),
+        "dense" => logs::granted(&mut r, 4096, 512, 32, 12, false),
+        "gaps" => logs::granted(&mut r, 4096, 512, 32, 256, true),
+        _ => logs::reversed(512),
+    };
+    let (v, order) = judge::list(&log, 512);
+    let mut sum = 0;
+    for _ in 0..times {
+        match side {
+            "ours-check" => sum += ours::check(std::hint::black_box(&log), &order).place,
+            "ours-list" => {
+                let mut out = [0u32; 512];
+                ours::list(std::hint::black_box(&log), &mut out);
+                sum += out[0] as usize;
+            }
+            "rust-check" => sum += judge::check(std::hint::black_box(&log), &order).place,
+            "rust-list" => sum += judge::list(std::hint::black_box(&log), 512).1.len(),
+            _ => {}
+        }
+    }
+    if let Ok(path) = std::env::var("WRITE") {
+        std::fs::write(&path, &log).unwrap();
+    }
+    println!(
+        "{} records, {:?}, {:?}, {sum}",
+        log.len() / 8,
+        v,
+        judge::check(&log, &order)
+    );
     false
 }

@@ -1,55 +1,147 @@
-//! The tried histories against the arbiter that keeps the whole history: is the reply that each row expects the one the whole history gives?
+//! The tried histories, logs and orders against programs written apart. Is the reply that each row expects the one that the arbiter with the whole history
+//! gives, and is each verdict and each list expected the one that the checker and the lister in Rust give?
+use crate::judge;
 use crate::requests::*;
 use crate::whole::Whole;
+
+fn number<T: std::str::FromStr>(word: &str) -> T {
+    word.parse()
+        .unwrap_or_else(|_| panic!("no number that fits: {word}"))
+}
+
+fn kind_of(word: &str) -> u8 {
+    match word {
+        "open" => OPEN,
+        "read" => READ,
+        "write" => WRITE,
+        "end" => END,
+        "abandon" => ABANDON,
+        w => number(w),
+    }
+}
+
+/// A number and its step, as in `5`, `5+1`, `512-1`.
+fn stepped(word: &str) -> (u32, u32) {
+    if let Some((first, step)) = word.split_once('+') {
+        (number(first), number(step))
+    } else if let Some((first, step)) = word.split_once('-') {
+        (number(first), number::<u32>(step).wrapping_neg())
+    } else {
+        (number(word), 0)
+    }
+}
+
+/// The jobs of a run, as in `7`, `7*3`, `1+1*512`, `512-1*512`.
+fn run_of(word: &str) -> Vec<u32> {
+    let (first, count) = match word.split_once('*') {
+        Some((first, count)) => (first, number(count)),
+        None => (word, 1),
+    };
+    let (first, step) = stepped(first);
+    (0..count)
+        .map(|i: u32| first.wrapping_add(i.wrapping_mul(step)))
+        .collect()
+}
+
+fn runs(words: &[&str]) -> Vec<u32> {
+    words.iter().flat_map(|w| run_of(w)).collect()
+}
+
+/// The verdict in a text, and what follows it.
+fn verdict<'a>(words: &'a [&'a str]) -> (judge::Verdict, &'a [&'a str]) {
+    let found = judge::Verdict {
+        code: number(words[0]),
+        place: number(words[1]),
+    };
+    (found, &words[2..])
+}
+
+#[derive(Default)]
+struct Counts {
+    histories: u32,
+    requests: u32,
+    logs: u32,
+    verdicts: u32,
+    wrong: u32,
+}
+
+/// A line, in words. What the other program gives, where that is not what the line expects.
+fn line(words: &[&str], whole: &mut Whole, log: &mut Vec<u8>, n: &mut Counts) -> Option<String> {
+    let colon = words.iter().position(|&w| w == ":").unwrap_or(words.len());
+    let (asked, expected) = (&words[1..colon], words.get(colon + 1..).unwrap_or(&[]));
+    match words[0] {
+        "history" => {
+            *whole = Whole::new(number(words[1]));
+            n.histories += 1;
+        }
+        "log" => {
+            log.clear();
+            n.logs += 1;
+        }
+        "record" => {
+            let (cell, step) = stepped(asked[2]);
+            for (i, job) in run_of(asked[3]).into_iter().enumerate() {
+                let cell = cell.wrapping_add(step.wrapping_mul(i as u32)) as u16;
+                log.extend(request(kind_of(asked[0]), number(asked[1]), cell, job));
+            }
+        }
+        "tail" => log.extend(vec![0; number(asked[0])]),
+        "order" => {
+            n.verdicts += 1;
+            let (expected, rest) = verdict(expected);
+            let found = judge::check(log, &runs(asked));
+            if found != expected || !rest.is_empty() {
+                return Some(format!("{} {}", found.code, found.place));
+            }
+        }
+        "list" => {
+            n.verdicts += 1;
+            let (expected, rest) = verdict(expected);
+            let (found, jobs) = judge::list(log, number(asked[0]));
+            // the checker must accept what the lister lists
+            let kept = found.code != 0 || judge::check(log, &jobs) == found;
+            if found != expected || jobs != runs(rest) || !kept {
+                return Some(format!("{} {} {jobs:?}", found.code, found.place));
+            }
+        }
+        kind => {
+            n.requests += 1;
+            let r = request(
+                kind_of(kind),
+                number(asked[0]),
+                number(asked[1]),
+                number(asked[2]),
+            );
+            let reply = whole.ask(r);
+            if reply != (number(expected[0]), number(expected[1])) {
+                return Some(format!("{} {}", reply.0, reply.1));
+            }
+        }
+    }
+    None
+}
 
 pub fn run(path: &str) -> bool {
     let text = std::fs::read_to_string(path).expect("the file can be read");
     let mut whole = Whole::new(1);
-    let (mut histories, mut rows, mut wrong) = (0, 0, 0);
-    for (i, line) in text.lines().enumerate() {
-        let spaced = line.replace(':', " ");
-        let words: Vec<&str> = if line.starts_with('#') {
-            vec![]
-        } else {
-            spaced.split_whitespace().collect()
-        };
-        if words.is_empty() {
+    let mut log = vec![];
+    let mut n = Counts::default();
+    for (i, l) in text.lines().enumerate() {
+        let spaced = l.replace(':', " : ");
+        let words: Vec<&str> = spaced.split_whitespace().collect();
+        if words.is_empty() || l.starts_with('#') {
             continue;
         }
-        if words[0] == "history" {
-            whole = Whole::new(words[1].parse().expect("a first number"));
-            histories += 1;
-            continue;
-        }
-        let kind = match words[0] {
-            "open" => OPEN,
-            "read" => READ,
-            "write" => WRITE,
-            "end" => END,
-            "abandon" => ABANDON,
-            w => w.parse().expect("a kind"),
-        };
-        let n: Vec<u32> = words[1..]
-            .iter()
-            .map(|w| w.parse().expect("a number"))
-            .collect();
-        let reply = whole.ask(request(kind, n[0] as u8, n[1] as u16, n[2]));
-        rows += 1;
-        if reply != (n[3], n[4]) {
-            println!(
-                "line {}: {line}: the whole history gives {} {}",
-                i + 1,
-                reply.0,
-                reply.1
-            );
-            wrong += 1;
+        if let Some(found) = line(&words, &mut whole, &mut log, &mut n) {
+            println!("line {}: {l}: the other program gives {found}", i + 1);
+            n.wrong += 1;
         }
     }
-    println!("{histories} histories, {rows} requests, {wrong} differ");
     println!(
-        "{} passed, {} failed",
-        (wrong == 0 && rows > 0) as u32,
-        (wrong != 0 || rows == 0) as u32
+        "{} histories, {} requests, {} logs, {} verdicts, {} differ",
+        n.histories, n.requests, n.logs, n.verdicts, n.wrong
     );
-    wrong != 0 || rows == 0
+    let right = n.wrong == 0 && n.requests > 0 && n.verdicts > 0;
+    println!("{} passed, {} failed", right as u32, !right as u32);
+    !right
 }

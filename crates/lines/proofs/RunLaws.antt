@@ -11,14 +11,15 @@ use lib.Dec.{ltb}
 use lib.ListN.{length, getD, take, drop, length-drop}
 use lib.Seq.{drop-cons, length-take-le}
 use borrow.Author.Tests.{lt-ltb, le-ltb, le-leb, lt-leb}
+use Rattle.text.specs.Puts.{Puts, agree}
 use Rattle.history.specs.Formats.{records}
 use Rattle.history.specs.Replies.{Request, Reply}
 use Rattle.held.specs.Held.{Held, answer-to, after, answers, after-all}
 use Rattle.arbiter.specs.Lent.{lent, request-of, numbered, Steps}
 use Rattle.arbiter.specs.declared.Moved.{Moved}
 use Rattle.lines.specs.Lines.{line, lines, lines-of}
-use Rattle.lines.specs.Writes.{Puts, Writes, most-place, roomy}
-use Rattle.lines.proofs.PutLaws.{agree, puts-starts, starts-none}
+use Rattle.lines.specs.Writes.{Writes, most-place, roomy}
+use Rattle.lines.proofs.PutLaws.{puts-starts, starts-none}
 
 -- ---- records
 

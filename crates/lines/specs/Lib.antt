@@ -1,4 +1,3 @@
 pub mod Lines
-pub mod DecimalLaws
 pub mod Writes
 pub mod LineLaws

@@ -1,24 +1,17 @@
--- What the contracts say: bytes put into a lent list at a place, and what a run of lines leaves.
+-- What the contracts say: bytes put at the start of a lent list, and what a run of lines leaves.
 -- Assumes nothing.
 use mathlib.Core.Path.{_≡_, refl}
 use mathlib.Core.Bool.{Bool, true, false, _&&_, cond}
 use mathlib.Core.List.{List, _++_}
-use Prim.Native.Nat.{ℕ, _+_, _/_, _≤_, _<_}
+use Prim.Native.Nat.{ℕ, _/_, _≤_, _<_}
 use borrow.Author.Tests.{ltb-true}
 use lib.Dec.{ltb, leb}
-use lib.ListN.{length, take, drop}
+use lib.ListN.{length, drop}
 use Rattle.history.specs.Formats.{records}
 use Rattle.held.specs.Held.{Held, after-all}
 use Rattle.arbiter.specs.Lent.{lent}
 use Rattle.lines.specs.Lines.{lines-of}
 use Rattle.lines.specs.declared.Written.{Written}
-
--- the bytes stand at the place, the rest is as it was, and r is the place past them
-pub record Puts (at : ℕ) (bytes out out′ : List ℕ) (r : ℕ) : Type 0 where
-  pub past : r ≡ at + length bytes
-  pub front : take r out′ ≡ take at out ++ bytes
-  pub back : drop r out′ ≡ drop r out
-  pub same : length out′ ≡ length out
 
 -- where there is room, the bytes stand at the start and the rest is as it was; and where there is none, nothing moves. That
 -- the count is within the list follows; it is stated for those who take that part of it

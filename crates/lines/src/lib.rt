@@ -1,11 +1,11 @@
 // The lines that the trial program prints: for each whole record of a buffer the place, the code and the job, in decimal.
-ghost use mathlib.Core.Path.{_≡_};
-ghost use Prim.Native.Nat.{ℕ, _+_, _≤_, _<_};
+ghost use Prim.Native.Nat.{_+_, _≤_};
 ghost use lib.Dec.{leb};
 ghost use lib.ListN.{length};
 ghost use Rattle.arbiter.specs.Lent.{lent, numbered};
-ghost use Rattle.lines.specs.Lines.{decimal, line, header-line, tail-line};
-ghost use Rattle.lines.specs.Writes.{Puts, Starts, Writes};
+ghost use Rattle.text.specs.Puts.{Puts};
+ghost use Rattle.lines.specs.Lines.{line, header-line, tail-line};
+ghost use Rattle.lines.specs.Writes.{Starts, Writes};
 use arbiter::Answer;
 
 // What a run leaves beside the arrays: the next number, the free slots, the count of bytes written and whether there was room. Where there was not,
@@ -17,63 +17,19 @@ pub struct Written {
     pub room: bool,
 }
 
-// How many digits the number has.
-fn places(n: u64) -> usize
-    ensures { λ r. ⌜ (r ≡ length (decimal n)) × (0 < r) × (r ≤ 20) ⌝ }
-{
-    let mut k: usize = 1;
-    let mut rest = n / 10;
-    while rest > 0 {
-        rest /= 10;
-        k += 1;
-    }
-    k
-}
-
-// Puts the number in decimal at a place, the last digit first, and answers the place past it.
-fn put(n: u64, out: &mut [u8], at: usize) -> usize
-    requires { ⌜ at + 20 ≤ length (now out) ⌝ }
-    ensures { λ r. ⌜ Puts at (decimal n) (now (out .entry)) (now (out .exit)) r ⌝ }
-    ensures { λ r. ⌜ r ≤ at + 20 ⌝ }
-{
-    let end = at + places(n);
-    let mut i = end - 1;
-    let mut rest = n / 10;
-    out[i] = 48 + (n % 10) as u8;
-    while i > at {
-        i -= 1;
-        out[i] = 48 + (rest % 10) as u8;
-        rest /= 10;
-    }
-    end
-}
-
 // Puts a line at a place, and answers the place past it.
 fn put_line(place: u64, answer: Answer, out: &mut [u8], at: usize) -> usize
     requires { ⌜ at + 44 ≤ length (now out) ⌝ }
     ensures { λ r. ⌜ Puts at (line place (numbered answer)) (now (out .entry)) (now (out .exit)) r ⌝ }
     ensures { λ r. ⌜ r ≤ at + 44 ⌝ }
 {
-    let a = put(place, out, at);
+    let a = text::put_number(place, out, at);
     out[a] = 32;
     out[a + 1] = 48 + answer.code() as u8;
     out[a + 2] = 32;
-    let b = put(answer.job().0 as u64, out, a + 3);
+    let b = text::put_number(answer.job().0 as u64, out, a + 3);
     out[b] = 10;
     b + 1
-}
-
-// Puts a text at a place, and answers the place past it.
-fn put_text(text: &[u8], out: &mut [u8], at: usize) -> usize
-    requires { ⌜ at + length (now text) ≤ length (now out) ⌝ }
-    ensures { λ r. ⌜ Puts at (now (text .entry)) (now (out .entry)) (now (out .exit)) r ⌝ }
-{
-    let mut i: usize = 0;
-    while i < text.len() {
-        out[at + i] = text[i];
-        i += 1;
-    }
-    at + i
 }
 
 // The header, 17 bytes, where there is room.
@@ -83,7 +39,7 @@ pub fn header(out: &mut [u8]) -> usize
     if out.len() < 17 {
         return 0;
     }
-    let text = [
+    let bytes = [
         b'r',
         b'e',
         b'q',
@@ -102,7 +58,7 @@ pub fn header(out: &mut [u8]) -> usize
         b'b',
         b'\n',
     ];
-    put_text(&text, out, 0)
+    text::put_text(&bytes, out, 0)
 }
 
 // The last line, for n bytes that are no whole record, where there is room for 26 bytes, and nothing for none.
@@ -115,9 +71,9 @@ pub fn tail(n: u64, out: &mut [u8]) -> usize
     if n == 0 {
         return 0;
     }
-    let text = [b't', b'a', b'i', b'l', b' '];
-    let a = put_text(&text, out, 0);
-    let b = put(n, out, a);
+    let bytes = [b't', b'a', b'i', b'l', b' '];
+    let a = text::put_text(&bytes, out, 0);
+    let b = text::put_number(n, out, a);
     out[b] = b'\n';
     b + 1
 }

@@ -279,11 +279,11 @@ pub data ListedAs (h : History) (lent : List ℕ) : Listed → Type 0 where
       → ListedAs h lent (record { code = 0; place = length o; list = o ++ drop (length o) lent })
 
 module _ (h : History) (turns : Turns h) where
-  kept-once : Once (kept h)
+  pub kept-once : Once (kept h)
   unfolding kept
   kept-once = once-if (kept h) (λ j r. let q = orderly h turns .rising j j (before-from-only (λ i. not (has (abandoned h) i)) (opened h) r) in omega arith)
 
-  accepted-length : {o : List ℕ} → Accepted h o → length o ≡ length (kept h)
+  pub accepted-length : {o : List ℕ} → Accepted h o → length o ≡ length (kept h)
   accepted-length a = once-length (a .once) kept-once (a .named) (a .names)
 
   with-order : (lent : List ℕ) (o : Option (List ℕ)) → order-of h ≡ o → length (kept h) ≤ length lent → ListedAs h lent (written o lent)

@@ -7,13 +7,13 @@ use Rattle.tried.proofs.all_lines.Statement.{statement}
 use Rattle.tried.proofs.all_lines.Tie as tie
 
 abbrev Inv-loop : tie.InvT-loop
-Inv-loop text numbers₀ leads₀ sets₀ done₀ at₀ numbers leads sets done at = Unit {0}
+Inv-loop text numbers₀ leads₀ sets₀ log₀ done₀ at₀ numbers leads sets log done at = Unit {0}
 
 abbrev μ-loop : tie.MeasureT-loop
-μ-loop text numbers₀ leads₀ sets₀ done₀ at₀ numbers leads sets done at = length text - at
+μ-loop text numbers₀ leads₀ sets₀ log₀ done₀ at₀ numbers leads sets log done at = length text - at
 
-fresh-requires : tie.Need-fresh-requires Inv-loop μ-loop
-fresh-requires c κs = search needs
+start-requires : tie.Need-start-requires Inv-loop μ-loop
+start-requires c κs = search needs
 
 loop-holds : tie.Need-loop-holds Inv-loop μ-loop
 loop-holds c = search needs
@@ -21,20 +21,17 @@ loop-holds c = search needs
 line-end-requires : tie.Need-line-end-requires Inv-loop μ-loop
 line-end-requires c κs = search needs
 
-sub-line-of : tie.Need-sub-line-of Inv-loop μ-loop
-sub-line-of c = search needs
+sub-go-on : tie.Need-sub-go-on Inv-loop μ-loop
+sub-go-on c = search needs
 
-part-line-of-start : tie.Need-part-line-of-start Inv-loop μ-loop
-part-line-of-start c = search needs
+part-go-on-start : tie.Need-part-go-on-start Inv-loop μ-loop
+part-go-on-start c = search needs
 
-part-line-of-end : tie.Need-part-line-of-end Inv-loop μ-loop
-part-line-of-end c = search needs
+part-go-on-end : tie.Need-part-go-on-end Inv-loop μ-loop
+part-go-on-end c = search needs
 
-line-of-requires : tie.Need-line-of-requires Inv-loop μ-loop
-line-of-requires c κs = search needs
-
-act-requires : tie.Need-act-requires Inv-loop μ-loop
-act-requires c κs = search needs
+go-on-requires : tie.Need-go-on-requires Inv-loop μ-loop
+go-on-requires c κs = search needs
 
 returns : tie.Need-returns Inv-loop μ-loop
 returns c = search needs
@@ -57,14 +54,13 @@ all-lines-spec =
     (tie.spec
     Inv-loop
     μ-loop
-    fresh-requires
+    start-requires
     loop-holds
     line-end-requires
-    sub-line-of
-    part-line-of-start
-    part-line-of-end
-    line-of-requires
-    act-requires
+    sub-go-on
+    part-go-on-start
+    part-go-on-end
+    go-on-requires
     returns
     add-at
     loop-less

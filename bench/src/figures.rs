@@ -1,0 +1,261 @@
+//! The figures: a table of costs, a picture of cost against the length of the history, and the deepest stack.
+use crate::judge;
+use crate::logs;
+use crate::ours::{self, Ours};
+use crate::requests::*;
+use crate::speed::{by_replay, by_rust, by_step, median, stream, timed};
+use crate::whole::Whole;
+use std::fmt::Write;
+use std::time::Instant;
+
+/// Nanoseconds a request of the arbiter that keeps the whole history, at so many requests.
+fn by_whole(bytes: &[u8]) -> f64 {
+    let mut w = Whole::new(1);
+    let start = Instant::now();
+    for q in bytes.chunks_exact(8) {
+        std::hint::black_box(w.ask(q.try_into().unwrap()));
+    }
+    start.elapsed().as_nanos() as f64 / (bytes.len() / 8) as f64
+}
+
+struct Point {
+    requests: u64,
+    ours: f64,
+    whole: Option<f64>,
+}
+
+/// One row of the table: medians of turns taken alternately.
+fn row(open: u64, requests: u64, text: &mut String) -> f64 {
+    let bytes = stream(open, requests);
+    let mut out = vec![0u8; bytes.len()];
+    let turns = if requests > 1_000_000 { 5 } else { 15 };
+    let (mut x, mut y, mut z) = (vec![], vec![], vec![]);
+    for _ in 0..turns {
+        x.push(timed(by_replay, &bytes, &mut out));
+        y.push(timed(by_step, &bytes, &mut out));
+        z.push(timed(by_rust, &bytes, &mut out));
+    }
+    let (x, y, z) = (median(x), median(y), median(z));
+    writeln!(
+        text,
+        "| {open} | {requests} | {x:.1} | {y:.1} | {z:.1} | {:.2} |",
+        x / z
+    )
+    .unwrap();
+    x
+}
+
+fn orders(text: &mut String) {
+    let mut r = Random::new(5);
+    for (name, log) in [
+        (
+            "4096 records, 512 jobs, 256 cells",
+            logs::granted(&mut r, 4096, 512, 32, 256, false),
+        ),
+        (
+            "4096 records, 512 jobs, 12 cells",
+            logs::granted(&mut r, 4096, 512, 32, 12, false),
+        ),
+        (
+            "the same with gaps between numbers",
+            logs::granted(&mut r, 4096, 512, 32, 256, true),
+        ),
+        ("512 jobs, the only order reversed", logs::reversed(512)),
+    ] {
+        let order = judge::list(&log, 512).1;
+        let mut lent = vec![0u32; 512];
+        let (mut a, mut b, mut c, mut d) = (vec![], vec![], vec![], vec![]);
+        for _ in 0..101 {
+            let t = Instant::now();
+            assert_eq!(ours::check(&log, &order).code, 0);
+            a.push(t.elapsed().as_nanos() as f64 / 1000.0);
+            let t = Instant::now();
+            assert_eq!(judge::check(&log, &order).code, 0);
+            b.push(t.elapsed().as_nanos() as f64 / 1000.0);
+            let t = Instant::now();
+            assert_eq!(ours::list(&log, &mut lent).code, 0);
+            c.push(t.elapsed().as_nanos() as f64 / 1000.0);
+            let t = Instant::now();
+            assert_eq!(judge::list(&log, 512).0.code, 0);
+            d.push(t.elapsed().as_nanos() as f64 / 1000.0);
+        }
+        let (a, b, c, d) = (median(a), median(b), median(c), median(d));
+        writeln!(
+            text,
+            "| {name} | {a:.0} | {b:.0} | {:.2} | {c:.0} | {d:.0} | {:.2} |",
+            a / b,
+            c / d
+        )
+        .unwrap();
+    }
+}
+
+// ---- the stack
+
+const PAINT: u8 = 0xc7;
+
+/// How deep a call goes, in bytes below the frame that makes it: the stack is painted, and what is no longer paint was used.
+#[inline(never)]
+fn depth(call: &mut dyn FnMut()) -> usize {
+    const ROOM: usize = 256 * 1024;
+    let here = 0u8;
+    let top = &here as *const u8 as usize - 1024;
+    unsafe {
+        for a in (top - ROOM)..top {
+            (a as *mut u8).write_volatile(PAINT);
+        }
+    }
+    call();
+    let mut low = top - ROOM;
+    unsafe {
+        while low < top && (low as *const u8).read_volatile() == PAINT {
+            low += 1;
+        }
+    }
+    &here as *const u8 as usize - low
+}
+
+/// The deepest of many calls, with what an empty call takes taken off.
+fn stack(text: &mut String) {
+    let measured = std::thread::Builder::new()
+        .stack_size(2 * 1024 * 1024)
+        .spawn(|| {
+            let bytes = stream(32, 3000);
+            let mut out = vec![0u8; bytes.len()];
+            let empty = depth(&mut || {});
+            let mut o = Ours::new(1);
+            let mut step = 0;
+            for q in bytes.chunks_exact(8) {
+                let q: Request = q.try_into().unwrap();
+                step = step.max(depth(&mut || {
+                    o.ask(q);
+                }));
+            }
+            let replay = depth(&mut || by_replay(&bytes, &mut out));
+            let mut r = Random::new(5);
+            let log = logs::granted(&mut r, 4096, 512, 32, 12, false);
+            let order = judge::list(&log, 512).1;
+            let mut lent = vec![0u32; 512];
+            let check = depth(&mut || {
+                ours::check(&log, &order);
+            });
+            let list = depth(&mut || {
+                ours::list(&log, &mut lent);
+            });
+            [
+                ("reedtangle_step", step),
+                ("reedtangle_replay", replay),
+                ("reedtangle_check_order", check),
+                ("reedtangle_list_order", list),
+            ]
+            .map(|(n, d)| (n, d.saturating_sub(empty)))
+        })
+        .unwrap()
+        .join()
+        .unwrap();
+    for (name, bytes) in measured {
+        writeln!(text, "| `{name}` | {bytes} |").unwrap();
+    }
+}
+
+// ---- the picture
+
+fn picture(points: &[Point]) -> String {
+    let (w, h) = (640.0, 400.0);
+    let x = |n: f64| 70.0 + (n.log10() - 2.0) / 5.0 * (w - 100.0);
+    let y = |v: f64| h - 50.0 - (v.log10() - 1.0) / 5.0 * (h - 90.0);
+    let mut s = format!("<svg xmlns=\"http://www.w3.org/2000/svg\" width=\"{w}\" height=\"{h}\" font-family=\"sans-serif\" font-size=\"12\">\n<rect width=\"100%\" height=\"100%\" fill=\"white\"/>\n");
+    for e in 2..=7 {
+        let at = x(10f64.powi(e));
+        writeln!(s, "<line x1=\"{at:.1}\" y1=\"40\" x2=\"{at:.1}\" y2=\"{}\" stroke=\"#ddd\"/><text x=\"{at:.1}\" y=\"{}\" text-anchor=\"middle\">10^{e}</text>", h - 50.0, h - 34.0).unwrap();
+    }
+    for e in 1..=6 {
+        let at = y(10f64.powi(e));
+        writeln!(s, "<line x1=\"70\" y1=\"{at:.1}\" x2=\"{}\" y2=\"{at:.1}\" stroke=\"#ddd\"/><text x=\"62\" y=\"{:.1}\" text-anchor=\"end\">10^{e}</text>", w - 30.0, at + 4.0).unwrap();
+    }
+    let mut line = |colour: &str, name: &str, values: Vec<(f64, f64)>, down: f64| {
+        let path: Vec<String> = values
+            .iter()
+            .map(|&(a, b)| format!("{:.1},{:.1}", x(a), y(b)))
+            .collect();
+        writeln!(
+            s,
+            "<polyline fill=\"none\" stroke=\"{colour}\" stroke-width=\"2\" points=\"{}\"/>",
+            path.join(" ")
+        )
+        .unwrap();
+        for &(a, b) in &values {
+            writeln!(
+                s,
+                "<circle cx=\"{:.1}\" cy=\"{:.1}\" r=\"3\" fill=\"{colour}\"/>",
+                x(a),
+                y(b)
+            )
+            .unwrap();
+        }
+        let &(a, b) = values.last().unwrap();
+        writeln!(
+            s,
+            "<text x=\"{:.1}\" y=\"{:.1}\" fill=\"{colour}\" text-anchor=\"end\">{name}</text>",
+            x(a),
+            y(b) + down
+        )
+        .unwrap();
+    };
+    line(
+        "#b03020",
+        "whole history",
+        points
+            .iter()
+            .filter_map(|p| p.whole.map(|v| (p.requests as f64, v)))
+            .collect(),
+        -10.0,
+    );
+    line(
+        "#2050a0",
+        "replay, 8 jobs open",
+        points.iter().map(|p| (p.requests as f64, p.ours)).collect(),
+        -10.0,
+    );
+    writeln!(s, "<text x=\"{}\" y=\"{}\" text-anchor=\"middle\">requests in the history</text><text x=\"16\" y=\"24\">nanoseconds a request</text>\n</svg>", w / 2.0, h - 12.0).unwrap();
+    s
+}
+
+pub fn run(folder: &str) -> bool {
+    let mut text = String::new();
+    text.push_str("| jobs open | requests | replay, ns | exported step, ns | Rust, ns | replay to Rust |\n|---|---|---|---|---|---|\n");
+    for open in [8, 32] {
+        for requests in [10_000, 1_000_000, 10_000_000] {
+            row(open, requests, &mut text);
+        }
+    }
+    text.push_str("\n| log | check, µs | Rust, µs | to Rust | list, µs | Rust, µs | to Rust |\n|---|---|---|---|---|---|---|\n");
+    orders(&mut text);
+    text.push_str("\n| function | deepest stack, bytes |\n|---|---|\n");
+    stack(&mut text);
+    let mut points = vec![];
+    for requests in [
+        100u64, 300, 1000, 3000, 10_000, 100_000, 1_000_000, 10_000_000,
+    ] {
+        let bytes = stream(8, requests);
+        let mut out = vec![0u8; bytes.len()];
+        let ours = median((0..5).map(|_| timed(by_replay, &bytes, &mut out)).collect());
+        let whole = (requests <= 3000).then(|| by_whole(&bytes));
+        points.push(Point {
+            requests,
+            ours,
+            whole,
+        });
+    }
+    text.push_str(
+        "\n| requests | replay, ns a request | whole history, ns a request |\n|---|---|---|\n",
+    );
+    for p in &points {
+        let whole = p.whole.map_or("-".to_string(), |v| format!("{v:.0}"));
+        writeln!(text, "| {} | {:.1} | {whole} |", p.requests, p.ours).unwrap();
+    }
+    print!("{text}");
+    std::fs::write(format!("{folder}/history-length.svg"), picture(&points))
+        .expect("the folder can be written to");
+    false
+}

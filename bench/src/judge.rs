@@ -1,0 +1,172 @@
+//! A checker and a lister in plain Rust, written apart from the project's own: a hash-free table of jobs found by halving, edges to the last writer and to the
+//! readers since, counts of predecessors not yet placed.
+
+#[derive(Clone, Copy, PartialEq, Debug)]
+pub struct Verdict {
+    pub code: u32,
+    pub place: usize,
+}
+
+fn verdict(code: u32, place: usize) -> Verdict {
+    Verdict { code, place }
+}
+
+#[derive(Clone, Copy, PartialEq)]
+enum Stand {
+    Open,
+    Wrote,
+    Ended,
+    Abandoned,
+}
+
+struct Table {
+    numbers: Vec<u32>,
+    stand: Vec<Stand>,
+    /// job's place, cell, write; in the order of the log
+    steps: Vec<(u16, u8, bool, u16)>,
+}
+
+fn read(log: &[u8]) -> Result<Table, Verdict> {
+    if log.len() % 8 != 0 || log.len() > 32768 {
+        return Err(verdict(11, 0));
+    }
+    let mut t = Table {
+        numbers: Vec::with_capacity(512),
+        stand: Vec::with_capacity(512),
+        steps: Vec::with_capacity(log.len() / 8),
+    };
+    for (place, r) in log.chunks_exact(8).enumerate() {
+        let cell = u16::from_le_bytes([r[2], r[3]]);
+        let job = u32::from_le_bytes([r[4], r[5], r[6], r[7]]);
+        if r[1] != 0 || r[0] == 0 || r[0] > 5 || cell > if r[0] == 2 || r[0] == 3 { 255 } else { 0 }
+        {
+            return Err(verdict(12, place));
+        }
+        if r[0] == 1 {
+            if t.numbers.last().is_some_and(|&n| n >= job) {
+                return Err(verdict(13, place));
+            }
+            if t.numbers.len() == 512 {
+                return Err(verdict(14, place));
+            }
+            t.numbers.push(job);
+            t.stand.push(Stand::Open);
+            continue;
+        }
+        let Ok(i) = t.numbers.binary_search(&job) else {
+            return Err(verdict(13, place));
+        };
+        let stand = t.stand[i];
+        if stand == Stand::Ended
+            || stand == Stand::Abandoned
+            || (r[0] == 5 && stand == Stand::Wrote)
+        {
+            return Err(verdict(13, place));
+        }
+        match r[0] {
+            2 => t.steps.push((i as u16, cell as u8, false, place as u16)),
+            3 => {
+                t.stand[i] = Stand::Wrote;
+                t.steps.push((i as u16, cell as u8, true, place as u16));
+            }
+            4 => t.stand[i] = Stand::Ended,
+            _ => t.stand[i] = Stand::Abandoned,
+        }
+    }
+    Ok(t)
+}
+
+pub fn check(log: &[u8], order: &[u32]) -> Verdict {
+    let t = match read(log) {
+        Ok(t) => t,
+        Err(v) => return v,
+    };
+    let kept = t.stand.iter().filter(|&&s| s != Stand::Abandoned).count();
+    let mut place = vec![0u32; t.numbers.len()];
+    for (k, job) in order.iter().enumerate() {
+        match t.numbers.binary_search(job) {
+            Ok(i) if t.stand[i] != Stand::Abandoned && place[i] == 0 => place[i] = k as u32 + 1,
+            _ => return verdict(15, k),
+        }
+    }
+    if order.len() < kept {
+        return verdict(15, order.len());
+    }
+    let mut highest = [[0u32; 2]; 256];
+    for &(i, cell, write, record) in &t.steps {
+        if t.stand[i as usize] == Stand::Abandoned {
+            continue;
+        }
+        let p = place[i as usize];
+        let h = &mut highest[cell as usize];
+        if p < h[1] || (write && p < h[0]) {
+            return verdict(16, record as usize);
+        }
+        let h = &mut h[write as usize];
+        *h = (*h).max(p);
+    }
+    verdict(0, kept)
+}
+
+pub fn list(log: &[u8], room: usize) -> (Verdict, Vec<u32>) {
+    let t = match read(log) {
+        Ok(t) => t,
+        Err(v) => return (v, vec![]),
+    };
+    let n = t.numbers.len();
+    let kept = t.stand.iter().filter(|&&s| s != Stand::Abandoned).count();
+    if room < kept {
+        return (verdict(18, kept), vec![]);
+    }
+    // edges to the last writer and to the readers since it: the others follow
+    let mut after: Vec<Vec<u16>> = vec![vec![]; n];
+    let mut waits = vec![0u32; n];
+    let mut writer = [u16::MAX; 256];
+    let mut readers: Vec<Vec<u16>> = vec![vec![]; 256];
+    for &(i, cell, write, _) in &t.steps {
+        if t.stand[i as usize] == Stand::Abandoned {
+            continue;
+        }
+        let c = cell as usize;
+        let mut edge = |from: u16| {
+            if from != i {
+                after[from as usize].push(i);
+                waits[i as usize] += 1;
+            }
+        };
+        if writer[c] != u16::MAX {
+            edge(writer[c]);
+        }
+        if write {
+            for &r in &readers[c] {
+                edge(r);
+            }
+            readers[c].clear();
+            writer[c] = i;
+        } else {
+            readers[c].push(i);
+        }
+    }
+    let mut ready = [0u64; 8];
+    for i in 0..n {
+        if t.stand[i] != Stand::Abandoned && waits[i] == 0 {
+            ready[i / 64] |= 1 << (i % 64);
+        }
+    }
+    let mut order = Vec::with_capacity(kept);
+    while let Some(w) = (0..8).find(|&w| ready[w] != 0) {
+        let i = w * 64 + ready[w].trailing_zeros() as usize;
+        ready[w] &= ready[w] - 1;
+        order.push(t.numbers[i]);
+        for &k in &after[i] {
+            waits[k as usize] -= 1;
+            if waits[k as usize] == 0 {
+                ready[k as usize / 64] |= 1 << (k % 64);
+            }
+        }
+    }
+    if order.len() < kept {
+        return (verdict(17, 0), vec![]);
+    }
+    (verdict(0, kept), order)
+}

@@ -1,0 +1,5 @@
+pub mod ReadLaws
+pub mod CheckLaws
+pub mod ListedLaws
+pub mod OneAnswer
+pub mod OneList

@@ -1,0 +1,13 @@
+pub mod Jobs
+pub mod Places
+pub mod Marks
+pub mod TableLaws
+pub mod FindLaws
+pub mod TakeLaws
+pub mod PlaceLaws
+pub mod TurnedLaws
+pub mod MarkLaws
+pub mod KeepLaws
+pub mod GatherLaws
+pub mod SortLaws
+pub mod ListLaws

@@ -1,0 +1,45 @@
+-- The places of an order, and the highest of them that a cell has seen.
+--
+-- A place counts from 1, and 0 is that of a job that is not named. Going through the steps of the kept jobs, each cell keeps the highest place among the jobs that
+-- have read it so far and among those that have written it: a step whose job stands lower than a job that it conflicts with is the later one of a pair that runs backward.
+-- Assumes nothing.
+use mathlib.Core.Path.{_≡_}
+use mathlib.Core.Bool.{_&&_, cond}
+use mathlib.Core.Option.{Option, none, some}
+use mathlib.Core.List.{List, [], _∷_}
+use Prim.Native.Nat.{ℕ, zero, suc, _<_, max}
+use lib.Dec.{ltb, eqb}
+use lib.ListN.{getD}
+use Rattle.history.specs.Events.{Kind, read, write, Step, History, opened}
+use Rattle.history.specs.Memory.{same-kind}
+
+-- ---- the order
+
+-- one more, and 0 stays
+abbrev pub one-on : ℕ → ℕ
+one-on zero = zero
+one-on (suc n) = suc (suc n)
+
+-- the first place of a job in the list, from 1 on
+abbrev pub place-in : List ℕ → ℕ → ℕ
+place-in [] j = 0
+place-in (x ∷ order) j = cond (eqb x j) 1 (one-on (place-in order j))
+
+-- the list tells the place of each job of the table
+abbrev pub Placed : History → ℕ → List ℕ → List ℕ → Type 0
+Placed h count order placed = (i : ℕ) → i < count → getD placed i 0 ≡ place-in order (getD (opened h) i 0)
+
+-- found at place r, or nowhere where r is the length
+abbrev pub found-at : ℕ → ℕ → Option ℕ
+found-at r n = cond (ltb r n) (some r) none
+
+-- ---- the tallies
+
+-- the highest place of a job among the steps of that kind on that cell
+abbrev pub highest : List ℕ → Kind → ℕ → List Step → ℕ
+highest order k c [] = 0
+highest order k c (a ∷ s) = cond (eqb (a .cell) c && same-kind (a .kind) k) (max (place-in order (a .job)) (highest order k c s)) (highest order k c s)
+
+pub record Tallied (order : List ℕ) (s : List Step) (reads writes : List ℕ) : Type 0 where
+  pub of-reads : (c : ℕ) → c < 256 → getD reads c 0 ≡ highest order read c s
+  pub of-writes : (c : ℕ) → c < 256 → getD writes c 0 ≡ highest order write c s

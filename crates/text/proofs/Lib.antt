@@ -1,0 +1,2 @@
+mod PutLaws
+pub mod OneAnswer
