@@ -26,14 +26,27 @@ struct Point {
 
 /// One row of the table: medians of turns taken alternately.
 fn row(open: u64, requests: u64, text: &mut String) -> f64 {
-    let bytes = stream(open, requests);
-    let mut out = vec![0u8; bytes.len()];
+    // short histories are many, each from its own seed: one that is run again and again is learnt by the processor
     let turns = if requests > 1_000_000 { 5 } else { 15 };
+    let several = if requests < 100_000 { 40 } else { 1 };
     let (mut x, mut y, mut z) = (vec![], vec![], vec![]);
-    for _ in 0..turns {
-        x.push(timed(by_replay, &bytes, &mut out));
-        y.push(timed(by_step, &bytes, &mut out));
-        z.push(timed(by_rust, &bytes, &mut out));
+    for turn in 0..turns {
+        let (mut a, mut b, mut c) = (0.0, 0.0, 0.0);
+        for k in 0..several {
+            let seed = if several == 1 {
+                1
+            } else {
+                turn * several + k + 1
+            };
+            let bytes = stream(open, requests, seed);
+            let mut out = vec![0u8; bytes.len()];
+            a += timed(by_replay, &bytes, &mut out);
+            b += timed(by_step, &bytes, &mut out);
+            c += timed(by_rust, &bytes, &mut out);
+        }
+        x.push(a / several as f64);
+        y.push(b / several as f64);
+        z.push(c / several as f64);
     }
     let (x, y, z) = (median(x), median(y), median(z));
     writeln!(
@@ -98,31 +111,32 @@ const PAINT: u8 = 0xc7;
 #[inline(never)]
 fn depth(call: &mut dyn FnMut()) -> usize {
     const ROOM: usize = 256 * 1024;
-    let here = 0u8;
-    let top = &here as *const u8 as usize - 1024;
+    let top: usize;
+    unsafe { std::arch::asm!("mov {}, rsp", out(reg) top) };
+    // what stands just below the stack's end may be in use
+    let painted = top - 128;
     unsafe {
-        for a in (top - ROOM)..top {
+        for a in (painted - ROOM)..painted {
             (a as *mut u8).write_volatile(PAINT);
         }
     }
     call();
-    let mut low = top - ROOM;
+    let mut low = painted - ROOM;
     unsafe {
-        while low < top && (low as *const u8).read_volatile() == PAINT {
+        while low < painted && (low as *const u8).read_volatile() == PAINT {
             low += 1;
         }
     }
-    &here as *const u8 as usize - low
+    top - low
 }
 
-/// The deepest of many calls, with what an empty call takes taken off.
+/// The deepest of many calls, the call of the export included.
 fn stack(text: &mut String) {
     let measured = std::thread::Builder::new()
         .stack_size(2 * 1024 * 1024)
         .spawn(|| {
-            let bytes = stream(32, 3000);
+            let bytes = stream(32, 3000, 1);
             let mut out = vec![0u8; bytes.len()];
-            let empty = depth(&mut || {});
             let mut o = Ours::new(1);
             let mut step = 0;
             for q in bytes.chunks_exact(8) {
@@ -148,7 +162,6 @@ fn stack(text: &mut String) {
                 ("reedtangle_check_order", check),
                 ("reedtangle_list_order", list),
             ]
-            .map(|(n, d)| (n, d.saturating_sub(empty)))
         })
         .unwrap()
         .join()
@@ -231,16 +244,27 @@ pub fn run(folder: &str) -> bool {
     }
     text.push_str("\n| log | check, µs | Rust, µs | to Rust | list, µs | Rust, µs | to Rust |\n|---|---|---|---|---|---|---|\n");
     orders(&mut text);
+    text.push_str("\n| jobs open | requests | trial, ns a request | Rust, ns a request | to Rust |\n|---|---|---|---|---|\n");
+    let differ = crate::lines::table(&mut text, "../target/bin/trial", "target/requests");
     text.push_str("\n| function | deepest stack, bytes |\n|---|---|\n");
     stack(&mut text);
     let mut points = vec![];
     for requests in [
         100u64, 300, 1000, 3000, 10_000, 100_000, 1_000_000, 10_000_000,
     ] {
-        let bytes = stream(8, requests);
-        let mut out = vec![0u8; bytes.len()];
-        let ours = median((0..5).map(|_| timed(by_replay, &bytes, &mut out)).collect());
-        let whole = (requests <= 3000).then(|| by_whole(&bytes));
+        let several = (300_000 / requests).clamp(1, 1000);
+        let mut times = vec![];
+        for turn in 0..if requests > 1_000_000 { 3 } else { 5 } {
+            let mut sum = 0.0;
+            for k in 0..several {
+                let bytes = stream(8, requests, turn * several + k + 1);
+                let mut out = vec![0u8; bytes.len()];
+                sum += timed(by_replay, &bytes, &mut out);
+            }
+            times.push(sum / several as f64);
+        }
+        let ours = median(times);
+        let whole = (requests <= 3000).then(|| by_whole(&stream(8, requests, 1)));
         points.push(Point {
             requests,
             ours,
@@ -257,5 +281,8 @@ pub fn run(folder: &str) -> bool {
     print!("{text}");
     std::fs::write(format!("{folder}/history-length.svg"), picture(&points))
         .expect("the folder can be written to");
-    false
+    if differ {
+        println!("the two trial programs print different lines");
+    }
+    differ
 }

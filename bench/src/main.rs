@@ -3,6 +3,7 @@ mod bounded;
 mod differ;
 mod figures;
 mod judge;
+mod lines;
 mod logs;
 mod ours;
 mod requests;
@@ -20,6 +21,7 @@ fn main() {
         Some("verdicts") => verdicts::run(number(1, 1), number(2, 1_000_000)),
         Some("tried") => tried::run(words.get(1).expect("the file of tried histories")),
         Some("figures") => figures::run(words.get(1).map_or(".", |w| w)),
+        Some("trial") => lines::trial(),
         Some("speed") => speed::run(number(1, 1_000_000)),
         Some("count") => speed::count(
             words.get(1).map_or("ours", |w| w),
@@ -32,7 +34,7 @@ fn main() {
             number(3, 1),
         ),
         _ => {
-            eprintln!("bench differ [SEED [REQUESTS]] | verdicts [SEED [LOGS]] | tried FILE | figures FOLDER | speed [REQUESTS] | count ours|rust OPEN REQUESTS");
+            eprintln!("bench differ [SEED [REQUESTS]] | verdicts [SEED [LOGS]] | tried FILE | figures FOLDER | speed [REQUESTS] | count ours|rust OPEN REQUESTS | orders SIDE KIND TIMES");
             true
         }
     };

@@ -5,8 +5,8 @@ use crate::requests::*;
 use std::time::Instant;
 
 /// A stream with so many jobs open nearly always: reads and writes on 200 cells, an end and an open now and then.
-pub fn stream(open: u64, requests: u64) -> Vec<u8> {
-    let mut r = Random::new(open * 17 + 1);
+pub fn stream(open: u64, requests: u64, seed: u64) -> Vec<u8> {
+    let mut r = Random::new(open * 17 + seed);
     let mut b = Bounded::new(1);
     let mut jobs: Vec<u32> = vec![];
     let mut bytes = Vec::with_capacity(requests as usize * 8);
@@ -71,7 +71,7 @@ pub fn run(requests: u64) -> bool {
     println!("nanoseconds a request, median of 9 turns; {requests} requests");
     println!("open  replay  step  rust  replay/rust");
     for open in [8, 32] {
-        let bytes = stream(open, requests);
+        let bytes = stream(open, requests, 1);
         let mut a = vec![0u8; bytes.len()];
         let mut b = vec![0u8; bytes.len()];
         let mut c = vec![0u8; bytes.len()];
@@ -93,7 +93,7 @@ pub fn run(requests: u64) -> bool {
 
 /// One run of one side, for an instruction counter.
 pub fn count(side: &str, open: u64, requests: u64) -> bool {
-    let bytes = stream(open, requests);
+    let bytes = stream(open, requests, 1);
     let mut out = vec![0u8; bytes.len()];
     match side {
         "ours" => by_replay(&bytes, &mut out),

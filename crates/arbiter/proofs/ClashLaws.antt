@@ -1,28 +1,29 @@
 -- The slots whose sets clash with a step.
 --
 -- First what the code reads: the word of a row in which a clash would show, and the test of the cell's mark in it, which are what held says of the row
--- (`clash-bit`, `past-bit`). Then a loop that visits the marks of a mask and gathers those that pass a test (`Gathering`). Last the two together
--- (`touched-mask`).
+-- (`clash-bit`, `past-bit`). Then the rows that clash with a step of no row (`clash-mask`), and those of them that a mask has (`mask-among`). Last the slots that come
+-- to lead to the asking one (`touched-mask`).
 -- Assumes nothing.
-use mathlib.Core.Path.{_≡_, refl, sym, ap, ap₂, _∙_}
-use mathlib.Core.Bool.{Bool, true, false, not, _&&_, _||_, cond, and-true, and-false, or-true, or-false, or-comm, Bool·not-not}
+use mathlib.Core.Path.{_≡_, refl, sym, ap, ap₂, _∙_, subst}
+use mathlib.Core.Logic.{⊎-elim}
+use mathlib.Core.Bool.{Bool, true, false, not, _&&_, _||_, cond, and-comm, and-true, and-false, or-true, or-false, or-comm, Bool·not-not}
 use mathlib.Core.List.{List}
-use Prim.Native.Nat.{ℕ, _+_, _-_, _*_, _/_, _%_, _^_, _<_}
-use native.Mathlib.Nat.{zero-add, lt-of-le-of-lt}
+use Prim.Native.Nat.{ℕ, _+_, _-_, _*_, _/_, _%_, _^_, _≤_, _<_}
+use native.Mathlib.Nat.{zero-add, lt-of-le-of-lt, lt-of-lt-of-le}
 use native.Mathlib.Omega.{arith}
-use lib.Bits.{bitOr, bitAnd, and-le-l, or-lt}
-use lib.Count.{trailingZeros}
-use lib.Dec.{lit<, eqb}
+use lib.Bits.{bitOr, bitAnd, and-le-r, or-lt}
+use lib.Dec.{eqb}
 use lib.ListN.{getD}
-use lib.Pow.{pow-lt}
-use Rattle.graph.specs.Decide.{by-test, eq-test, test-true, test-false}
+use lib.Pow.{pow-mono, pow-lt}
+use borrow.Author.Tests.{ne-eqb}
+use Rattle.graph.specs.Decide.{by-test, answer, eq-test, lt-test}
 use Rattle.marks.specs.Marks.{bit, mask-of}
-use Rattle.marks.specs.MarkLaws.{bit-zero, bit-pow, bit-or, bit-and, bit-others, and-mark}
+use Rattle.marks.specs.MarkLaws.{bit-pow, bit-above, bit-or, bit-and, bit-others, mask-lt, mask-same, and-mark}
 use Rattle.history.specs.Events.{read, write}
 use Rattle.history.specs.Memory.{Footprint, meets}
 use Rattle.held.specs.Held.{own-at, past-at, cell-at, word-at, touched}
 use Rattle.arbiter.specs.Lent.{sets-only, kind-of}
-use Rattle.arbiter.proofs.MaskLaws.{one-shl, masked, Visiting, left-inside, visit-start, visit-turn, visit-end}
+use Rattle.arbiter.proofs.MaskLaws.{one-shl, bit-of, masked}
 
 -- ---- the words that the code reads
 
@@ -104,9 +105,40 @@ tested m e t = ap (λ (x : ℕ). tests x m) (sym e) ∙ t
 abbrev pub clashes : List ℕ → Bool → ℕ → ℕ → ℕ → Bool
 clashes l w p mark i = tests (clash-word l w p i) mark
 
--- ---- a loop that gathers marks
+-- ---- the rows that clash with a step of no row
 
--- n | (1 << i)
+-- slot 32 is no row, so that own and past of every row count
+abbrev pub met : List ℕ → Bool → ℕ → ℕ → Bool
+met l w c i = touched (sets-only l) (kind-of w) 32 c i
+
+met-is : (l : List ℕ) (w : Bool) (c : ℕ) {i : ℕ} → i < 32
+    → met l w c i ≡ meets (own-at (sets-only l) i) (kind-of w) c || meets (past-at (sets-only l) i) (kind-of w) c
+unfolding touched
+met-is l w c {i} q =
+    ap (λ (x : Bool). (not x && meets (own-at (sets-only l) i) (kind-of w) c) || meets (past-at (sets-only l) i) (kind-of w) c) (ne-eqb i 32 (omega arith))
+
+-- the tests of their words tell them
+pub clash-mask : {p m : ℕ} (l : List ℕ) (w : Bool) (c t : ℕ) → t ≤ 32 → p ≡ c / 64 → m ≡ 2 ^ (c % 64) → mask-of t (clashes l w p m) ≡ mask-of t (met l w c)
+clash-mask {p} {m} l w c t h ep em =
+    mask-same t (clashes l w p m) (met l w c)
+    (λ k q. ap₂ (λ (x y : ℕ). clashes l w x y k) ep em ∙ tests-bit (clash-word l w (c / 64) k) (c % 64) ∙ clash-bit l c k w ∙ sym (met-is l w c (lt-of-lt-of-le q h)))
+
+-- the marks of `slots`, none of which is t or above, that pass f
+pub mask-among : {x slots : ℕ} (t : ℕ) (f : ℕ → Bool) → x ≡ mask-of t f → slots < 2 ^ t → t ≤ 32 → bitAnd x slots ≡ mask-of 32 (λ i. bit slots i && f i)
+mask-among {x} {slots} t f e h q =
+    masked 32 (λ i. bit slots i && f i) (lt-of-le-of-lt (and-le-r x slots) (lt-of-lt-of-le h (pow-mono q)))
+    (λ k r. bit-and x slots k ∙ ⊎-elim (inside k) (λ n. above k (omega arith)) (answer (lt-test k t)))
+  where
+    inside : (k : ℕ) → k < t → bit x k && bit slots k ≡ bit slots k && f k
+    inside k r = ap (λ (b : Bool). b && bit slots k) (bit-of t f e k r) ∙ and-comm (f k) (bit slots k)
+
+    above : (k : ℕ) → t ≤ k → bit x k && bit slots k ≡ bit slots k && f k
+    above k r =
+        let z = bit-above t slots k h r in
+        ap (λ (b : Bool). bit x k && b) z ∙ and-false (bit x k) ∙ sym (ap (λ (b : Bool). b && f k) z)
+
+-- ---- n | (1 << i)
+
 more-fits : {n i : ℕ} → n < 2 ^ 32 → i < 32 → bitOr n (1 * 2 ^ i % 2 ^ 32) < 2 ^ 32
 more-fits {n} {i} h q = or-lt 32 n (1 * 2 ^ i % 2 ^ 32) h (omega arith)
 
@@ -114,47 +146,11 @@ bit-more : (n i k : ℕ) → i < 32 → bit (bitOr n (1 * 2 ^ i % 2 ^ 32)) k ≡
 bit-more n i k h =
     ap (λ (x : ℕ). bit (bitOr n x) k) (one-shl h) ∙ bit-or n (2 ^ i) k ∙ ap (λ (b : Bool). bit n k || b) (bit-pow i k)
 
--- The marks of `from` that pass f, in `found`, with those of `todo` left.
-pub record Gathering (from : ℕ) (f : ℕ → Bool) (todo found : ℕ) : Type 0 where
-  pub fits : found < 2 ^ 32
-  pub marks : Visiting 32 32 from (λ k. k) f (λ k. false) todo (bit found)
-
-module _ {from : ℕ} {f : ℕ → Bool} where
-  pub gather-start : from < 2 ^ 32 → Gathering from f from 0
-  gather-start h = record { fits = lit< tt; marks = visit-start h (λ k q. bit-zero k) }
-
-  -- the lowest mark of those that are left passes, or does not
-  pub gather-in : {todo found : ℕ} → Gathering from f todo found → (todo ≡ 0 → ⊥) → f (trailingZeros 32 todo) ≡ true
-      → Gathering from f (bitAnd todo (todo - 1)) (bitOr found (1 * 2 ^ trailingZeros 32 todo % 2 ^ 32))
-  gather-in {todo} {found} g ne t =
-      record {
-        fits = more-fits (g .fits) h;
-        marks =
-            visit-turn (g .marks) ne (λ k q e o. more k (test-true (eq-test k i) e) ∙ or-true (bit found k) ∙ sym (ap f e ∙ t))
-            (λ k q d. more k (test-false (eq-test k i) d) ∙ or-false (bit found k));
-      }
-    where
-      i : ℕ
-      i = trailingZeros 32 todo
-
-      h : i < 32
-      h = left-inside (g .marks .left) ne
-
-      more : (k : ℕ) {b : Bool} → eqb k i ≡ b → bit (bitOr found (1 * 2 ^ i % 2 ^ 32)) k ≡ bit found k || b
-      more k e = bit-more found i k h ∙ ap (λ (b : Bool). bit found k || b) e
-
-  pub gather-out : {todo found : ℕ} → Gathering from f todo found → (todo ≡ 0 → ⊥) → f (trailingZeros 32 todo) ≡ false
-      → Gathering from f (bitAnd todo (todo - 1)) found
-  gather-out g ne t = record { fits = g .fits; marks = visit-turn (g .marks) ne (λ k q e o. o ∙ sym (ap f e ∙ t)) (λ k q d. refl) }
-
 -- ---- the slots that come to lead to s
 
 -- the other open slots, as the code masks them
 abbrev pub others : ℕ → ℕ → ℕ
 others free s = bitAnd (2 ^ 32 - 1 - free) (2 ^ 32 - 1 - 1 * 2 ^ s % 2 ^ 32)
-
-pub others-fits : (free s : ℕ) → others free s < 2 ^ 32
-others-fits free s = lt-of-le-of-lt (and-le-l (2 ^ 32 - 1 - free) (2 ^ 32 - 1 - 1 * 2 ^ s % 2 ^ 32)) (omega arith)
 
 bit-other : {free s k : ℕ} → free < 2 ^ 32 → s < 32 → k < 32 → bit (others free s) k ≡ not (bit free k) && not (eqb k s)
 bit-other {free} {s} {k} h hs q =
@@ -166,12 +162,12 @@ bit-other {free} {s} {k} h hs q =
 abbrev pub touches : ℕ → List ℕ → Bool → ℕ → ℕ → ℕ → Bool
 touches free l w s c i = not (bit free i) && touched (sets-only l) (kind-of w) s c i
 
--- The loop gathers the others that clash, and s itself is added where its past does.
-pub touched-mask : {free s p m todo found r : ℕ} (l : List ℕ) (w : Bool) (c : ℕ) (b : Bool) → free < 2 ^ 32 → s < 32 → bit free s ≡ false
-    → p ≡ c / 64 → m ≡ 2 ^ (c % 64) → Gathering (others free s) (clashes l w p m) todo found → todo ≡ 0 → r ≡ past-word l w p s → tests r m ≡ b
+-- The others that clash, and s itself where its past does.
+pub touched-mask : {free s p m found r : ℕ} (l : List ℕ) (w : Bool) (c : ℕ) (b : Bool) → free < 2 ^ 32 → s < 32 → bit free s ≡ false
+    → p ≡ c / 64 → m ≡ 2 ^ (c % 64) → found ≡ mask-of 32 (λ i. bit (others free s) i && met l w c i) → r ≡ past-word l w p s → tests r m ≡ b
     → cond b (bitOr found (1 * 2 ^ s % 2 ^ 32)) found ≡ mask-of 32 (touches free l w s c)
 unfolding touched
-touched-mask {free} {s} {p} {m} {todo} {found} {r} l w c b hf hs here ep em g e er eb =
+touched-mask {free} {s} {p} {m} {found} {r} l w c b hf hs here ep em ef er eb =
     masked 32 (λ i. not (bit free i) && ((not (eqb i s) && own i) || past i)) (fits b)
     (λ k q. with-own b k ∙ ap₂ (λ (x y : Bool). x || y && eqb k s) (gathered k q) itself ∙ agree k)
   where
@@ -181,34 +177,34 @@ touched-mask {free} {s} {p} {m} {todo} {found} {r} l w c b hf hs here ep em g e 
     past : ℕ → Bool
     past i = meets (past-at (sets-only l) i) (kind-of w) c
 
+    found-fits : found < 2 ^ 32
+    found-fits = subst (λ (n : ℕ). n < 2 ^ 32) (sym ef) (mask-lt 32 (λ i. bit (others free s) i && met l w c i))
+
     fits : (b : Bool) → cond b (bitOr found (1 * 2 ^ s % 2 ^ 32)) found < 2 ^ 32
-    fits true = more-fits (g .fits) hs
-    fits false = g .fits
+    fits true = more-fits found-fits hs
+    fits false = found-fits
 
     with-own : (b : Bool) (k : ℕ) → bit (cond b (bitOr found (1 * 2 ^ s % 2 ^ 32)) found) k ≡ bit found k || b && eqb k s
     with-own true k = bit-more found s k hs
     with-own false k = sym (or-false (bit found k))
 
-    gathered : (k : ℕ) → k < 32 → bit found k ≡ cond (not (bit free k) && not (eqb k s)) (own k || past k) false
-    gathered k q =
-        visit-end (g .marks) e k q
-        ∙ ap₂ (λ (x y : Bool). cond x y false) (bit-other hf hs q)
-        (ap₂ (λ (x y : ℕ). tests (clash-word l w x k) y) ep em ∙ tests-bit (clash-word l w (c / 64) k) (c % 64) ∙ clash-bit l c k w)
+    gathered : (k : ℕ) → k < 32 → bit found k ≡ (not (bit free k) && not (eqb k s)) && (own k || past k)
+    gathered k q = bit-of 32 (λ i. bit (others free s) i && met l w c i) ef k q ∙ ap₂ _&&_ (bit-other hf hs q) (met-is l w c q)
 
     itself : b ≡ past s
     itself =
         sym eb ∙ ap₂ tests (er ∙ ap (λ (x : ℕ). past-word l w x s) ep) em ∙ tests-bit (past-word l w (c / 64) s) (c % 64) ∙ past-bit l c s w
 
     agree : (k : ℕ)
-        → cond (not (bit free k) && not (eqb k s)) (own k || past k) false || past s && eqb k s ≡ not (bit free k) && ((not (eqb k s) && own k) || past k)
+        → (not (bit free k) && not (eqb k s)) && (own k || past k) || past s && eqb k s ≡ not (bit free k) && ((not (eqb k s) && own k) || past k)
     agree k =
-        by-test (λ (t : Bool). cond (not (bit free k) && not t) (own k || past k) false || past s && t ≡ not (bit free k) && ((not t && own k) || past k))
+        by-test (λ (t : Bool). (not (bit free k) && not t) && (own k || past k) || past s && t ≡ not (bit free k) && ((not t && own k) || past k))
         (eq-test k s)
         (λ i. let o : not (bit free k) ≡ true = ap (λ (x : ℕ). not (bit free x)) i ∙ ap not here in
-        ap (λ (t : Bool). cond (t && false) (own k || past k) false || past s && true) o ∙ and-true (past s) ∙ ap past (sym i)
+        ap (λ (t : Bool). (t && false) && (own k || past k) || past s && true) o ∙ and-true (past s) ∙ ap past (sym i)
         ∙ ap (λ (t : Bool). t && past k) (sym o))
         (λ d. go (not (bit free k)) (own k || past k) (past s))
       where
-        go : (t x y : Bool) → cond (t && true) x false || y && false ≡ t && x
+        go : (t x y : Bool) → (t && true) && x || y && false ≡ t && x
         go true x y = ap (λ (z : Bool). x || z) (and-false y) ∙ or-false x
         go false x y = and-false y

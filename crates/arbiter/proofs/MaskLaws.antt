@@ -1,6 +1,6 @@
 -- What the arbiter's loops over marks and rows show, turn by turn.
 --
--- First masks as the code makes them: `1 << s`, `found | (1 << w)`, `found & !n`. Then loops that change the places of a table one after the other: `seen`
+-- First masks as the code makes them: `1 << s`, `found | (1 << w)`, `found & !n`, and a mask's lowest mark. Then loops that change the places of a table one after the other: `seen`
 -- tells which indices were visited, and a place has its new value once its index was seen, and its old one before (`Changed`). One turn adds one index (`Adds`).
 -- Which one goes by the loop: the lowest mark of those that are left (`left-adds`; `Visiting` is such a loop over values of any kind), or the next number
 -- (`count-adds`). Last the same of a list in which a turn rewrites one element (`Rewritten`; `Marked` where the marks are visited).
@@ -13,15 +13,15 @@ use Prim.Native.Nat.{ℕ, _+_, _-_, _*_, _/_, _%_, _^_, _<_}
 use native.Mathlib.Nat.{one-mul, zero-mul, le-refl, lt-of-le-of-lt, pos-of-ne-zero}
 use native.Mathlib.Omega.{arith}
 use lib.Bits.{bitOr, bitAnd, or-zero-r, and-mask, and-le-l, and-le-r}
-use lib.Count.{trailingZeros}
+use lib.Count.{trailingZeros, trailing-of-zero}
 use lib.Dec.{T, lit<, eqb, ltb}
 use lib.ListN.{length, getD, set, length-set}
 use lib.Pow.{shl-exact}
 use lib.Seq.{ext-getD, getD-set-same, getD-set-other}
 use borrow.Author.Tests.{le-ltb, lt-ltb}
-use Rattle.graph.specs.Decide.{answer, own-test, and-test, eq-test, lt-test, same-test, by-test, test-true, test-false}
+use Rattle.graph.specs.Decide.{answer, true-is, false-is, own-test, and-test, eq-test, lt-test, same-test, by-test, test-true, test-false}
 use Rattle.marks.specs.Marks.{bit, mask-of, tab}
-use Rattle.marks.specs.MarkLaws.{digit, bit-lowest, low-digit, getD-tab, length-tab, bit-zero, bit-same, bit-and, bit-others, bit-without, mask-lt, mask-next, bit-mask, lowest-mark, and-pred}
+use Rattle.marks.specs.MarkLaws.{digit, bit-lowest, low-digit, getD-tab, length-tab, bit-zero, bit-same, bit-and, bit-others, bit-without, mask-lt, mask-next, bit-mask, no-bits, bit-nonzero, Lowest, lowest-mark, and-pred}
 
 -- ---- masks as the code makes them
 
@@ -67,6 +67,24 @@ mask-others {x} w f g n e h m =
     (λ k q.
     bit-and x (2 ^ w - 1 - n) k ∙ ap₂ _&&_ (ap (λ (y : ℕ). bit y k) e ∙ bit-mask w f k q) (bit-others w n k h q ∙ ap not (m k q))
     ∙ and-comm (f k) (not (g k)))
+
+-- the trailing zeros of a mask: w where none passes, and else the lowest that does
+pub lowest-none : (w : ℕ) (p : ℕ → Bool) → ((k : ℕ) → k < w → p k ≡ false) → trailingZeros w (mask-of w p) ≡ w
+lowest-none w p o = ap (trailingZeros w) (no-bits w (mask-of w p) (mask-lt w p) (λ k q. bit-mask w p k q ∙ o k q)) ∙ trailing-of-zero w
+
+pub lowest-is : (w : ℕ) (p : ℕ → Bool) (t : ℕ) → t < w → p t ≡ true → ((k : ℕ) → k < t → p k ≡ false) → trailingZeros w (mask-of w p) ≡ t
+lowest-is w p t q y o =
+    ⊎-elim (λ r. absurd (false-is (bit-mask w p x (l .inside) ∙ o x r) (l .there)))
+    (λ n. ⊎-elim (λ r. absurd (false-is (l .none-lower t r) there)) (λ m. omega arith) (answer (lt-test t x))) (answer (lt-test x t))
+  where
+    there : T (bit (mask-of w p) t)
+    there = true-is (bit-mask w p t q ∙ y)
+
+    x : ℕ
+    x = trailingZeros w (mask-of w p)
+
+    l : Lowest w (mask-of w p)
+    l = lowest-mark w (mask-of w p) (mask-lt w p) (bit-nonzero (mask-of w p) t there)
 
 -- ---- loops that change a table place by place
 

@@ -1,7 +1,7 @@
 -- What the proofs of the arbiter's requests need beyond the contracts of the functions that they call.
 --
 -- First names for what the callees ensure, so that each law takes a contract's text as it stands. Then what the tests of the code say of a state: the slot that
--- it finds by the lowest mark of a mask is the first that passes the mask's test (`slot-none`, `slot-some`, `free-first`), the count of free marks tells a full
+-- it finds by the lowest mark of a mask is the first that passes the mask's test (`slot-none`, `slot-found`, `free-first`), the count of free marks tells a full
 -- state (`count-full`), the masks made before the new leads stand tell a circle that they would close (`circle-law`), an empty set of words tells that
 -- nothing was written (`altered-law`). Then the codes of any state, by what each test comes to. Last a law for each way out of a request (`does-..`) and
 -- for each arm of a step (`steps-..`): from the branches taken and what the callees ensure to what the contract says.
@@ -16,7 +16,7 @@ use native.Mathlib.Nat.{add-assoc, not-suc-le-zero, zero-lt-suc, le-of-suc-le-su
 use native.Mathlib.Numerals.{add-one}
 use native.Mathlib.Omega.{arith}
 use lib.Bits.{bitOr, bitAnd, or-lt, and-le-l, and-le-r}
-use lib.Count.{ones, trailingZeros}
+use lib.Count.{ones, trailingZeros, trailing-of-zero}
 use lib.Dec.{T, leb, eqb}
 use lib.ListN.{length, getD, take, drop, replicate}
 use lib.Pow.{ones-sub-lt}
@@ -50,7 +50,7 @@ slot found = trailingZeros 32 found
 abbrev pub mark : ℕ → ℕ
 mark s = 1 * 2 ^ s % 4294967296
 
--- the rules of the masks: open; open and with the number (`holding`); open and another that leads to s (`leading`); open and reached from s (`reached`); open
+-- the rules of the masks: open; open and with the number (`holding`, `slot_for`); open and another that leads to s (`leading`); open and reached from s (`reached`); open
 -- and touched by a step of s (`touching`)
 abbrev pub is-open : ℕ → ℕ → Bool
 is-open free i = not (bit free i)
@@ -152,28 +152,45 @@ module _ (w : ℕ) (p : ℕ → Bool) {found : ℕ} (e : found ≡ mask-of w p) 
         first-there p w (trailingZeros w found) (λ k. k) (first-passes .0) (first-passes .1)
         (λ k q. sym (bit-of w p e k (lt-trans q (first-passes .0))) ∙ lowest .none-lower k q)
 
--- the slot found is a slot, and open
-pub slot-open : (free : ℕ) (numbers : List ℕ) (j : ℕ) {found : ℕ} → found ≡ mask-of 32 (holds free numbers j) → (found ≡ 0 → ⊥)
-    → (slot found < 32) × (bit free (slot found) ≡ false)
-slot-open free numbers j {found} e ne =
-    let r = first-passes 32 (holds free numbers j) e ne in
-    (r .0, was-open (bit free (slot found)) (eqb (getD numbers (slot found) 0) j) (r .1))
-  where
-    was-open : (a b : Bool) → not a && b ≡ true → a ≡ false
-    was-open true b q = sym q
-    was-open false b q = refl
+-- the slot of the number is a slot, and open
+pub record Found (h : Held) (j s : ℕ) : Type 0 where
+  pub inside : s < 32
+  pub was-open : bit (h .free) s ≡ false
+  pub first : slot-of h j ≡ some s
 
--- it is the slot of the number
-module _ (h : Held) (j : ℕ) {found : ℕ} (e : found ≡ mask-of 32 (holds (h .free) (h .numbers) j)) where
+-- what `slot_for` ensures tells it, or that there is none
+module _ (h : Held) (j : ℕ) {s : ℕ} (e : s ≡ slot (mask-of 32 (holds (h .free) (h .numbers) j))) where
+  abbrev holding : ℕ
+  holding = mask-of 32 (holds (h .free) (h .numbers) j)
+
   slot-first : slot-of h j ≡ first-in (only (holds (h .free) (h .numbers) j) (upto 32))
   unfolding slot-of open-slots open-at number-at
   slot-first = ap first-in (only-only (λ i. eqb (getD (h .numbers) i 0) j) (is-open (h .free)) (upto 32))
 
-  pub slot-none : found ≡ 0 → slot-of h j ≡ none
-  slot-none z = slot-first ∙ first-none 32 (holds (h .free) (h .numbers) j) e z
+  pub slot-none : 32 ≤ s → slot-of h j ≡ none
+  slot-none q = slot-first ∙ first-none 32 (holds (h .free) (h .numbers) j) refl (⊎-elim (λ z. z) nowhere (answer (eq-test holding 0)))
+    where
+      nowhere : (holding ≡ 0 → ⊥) → holding ≡ 0
+      nowhere ne = let r = first-passes 32 (holds (h .free) (h .numbers) j) refl ne .0 in absurd (omega arith)
 
-  pub slot-some : (found ≡ 0 → ⊥) → slot-of h j ≡ some (slot found)
-  slot-some ne = slot-first ∙ first-some 32 (holds (h .free) (h .numbers) j) e ne
+  pub slot-found : s < 32 → Found h j s
+  slot-found q =
+      subst (Found h j) (sym e)
+      (record {
+        inside = r .0;
+        was-open = opened (bit (h .free) (slot holding)) (eqb (getD (h .numbers) (slot holding) 0) j) (r .1);
+        first = slot-first ∙ first-some 32 (holds (h .free) (h .numbers) j) refl ne;
+      })
+    where
+      ne : holding ≡ 0 → ⊥
+      ne z = let w = e ∙ ap slot z ∙ trailing-of-zero 32 in omega arith
+
+      r : (slot holding < 32) × (holds (h .free) (h .numbers) j (slot holding) ≡ true)
+      r = first-passes 32 (holds (h .free) (h .numbers) j) refl ne
+
+      opened : (a b : Bool) → not a && b ≡ true → a ≡ false
+      opened true b q = sym q
+      opened false b q = refl
 
 -- ---- free slots
 
@@ -399,7 +416,7 @@ module _ {h : Held} {j c : ℕ} {r : Moved} where
   pub does-step-no-cell : {k : Kind} → 256 ≤ c → Refused h NoCell r → Does h (a-step k) j c r (h .numbers) (h .leads) (h .sets)
   does-step-no-cell {k} q = refuses 2 (code-step h k j c (le-leb 256 c q) refl refl) refl refl
 
-  module _ {found : ℕ} (e : found ≡ mask-of 32 (holds (h .free) (h .numbers) j)) (z : found ≡ 0) where
+  module _ {s : ℕ} (e : s ≡ slot (mask-of 32 (holds (h .free) (h .numbers) j))) (z : 32 ≤ s) where
     pub does-step-not-open : {k : Kind} → c < 256 → Refused h NotOpen r → Does h (a-step k) j c r (h .numbers) (h .leads) (h .sets)
     does-step-not-open {k} q = refuses 3 (code-step h k j c (lt-leb 256 c q) (slot-none h j e z) refl) refl refl
 
@@ -432,16 +449,15 @@ does-open-granted {h} {j} {c} fits q ne ns ls ss =
 -- ---- a step of a slot that is found
 
 -- what it has looked up before it tests for a circle: the slots that touch its own, and those that are reached from it
-pub record Looked (h : Held) (writes : Bool) (j c found into-s seen : ℕ) : Type 0 where
+pub record Looked (h : Held) (writes : Bool) (j c s into-s seen : ℕ) : Type 0 where
   pub cell-lt : c < 256
-  pub holding : found ≡ mask-of 32 (holds (h .free) (h .numbers) j)
-  pub some-slot : found ≡ 0 → ⊥
-  pub touching : into-s ≡ mask-of 32 (touches (h .free) (h .sets) (kind-of writes) (slot found) (c % 256))
-  pub reached : seen ≡ mask-of 32 (reaches (h .free) (h .leads) (slot found))
+  pub found : Found h j s
+  pub touching : into-s ≡ mask-of 32 (touches (h .free) (h .sets) (kind-of writes) s (c % 256))
+  pub reached : seen ≡ mask-of 32 (reaches (h .free) (h .leads) s)
 
 -- what it tests then
 abbrev pub circle-code : ℕ → ℕ → ℕ → ℕ
-circle-code found into-s seen = bitOr (bitAnd seen (mark (slot found))) (bitAnd (bitOr seen (mark (slot found))) into-s)
+circle-code s into-s seen = bitOr (bitAnd seen (mark s)) (bitAnd (bitOr seen (mark s)) into-s)
 
 -- where the set of a kind stands
 own-place : (writes : Bool) → cond writes 4 0 ≡ set-place (kind-of writes)
@@ -453,28 +469,28 @@ gained-by : (leads : List ℕ) (p : ℕ → Bool) (gain : ℕ) {from : ℕ} → 
 gained-by leads p gain {from} e =
     tab-same 32 (row-gains leads (bit from) gain) (row-gains leads p gain) (λ i q. ap (λ (b : Bool). cond b (bitOr (getD leads i 0) gain) (getD leads i 0)) (bit-of 32 p e i q))
 
-module _ {h : Held} {writes : Bool} {j c found into-s seen : ℕ} (l : Looked h writes j c found into-s seen) where
-  touched-here : into-s ≡ mask-of 32 (touches (h .free) (h .sets) (kind-of writes) (slot found) c)
-  touched-here = l .touching ∙ ap (λ (x : ℕ). mask-of 32 (touches (h .free) (h .sets) (kind-of writes) (slot found) x)) (mod-eq-of-lt (l .cell-lt))
+module _ {h : Held} {writes : Bool} {j c s into-s seen : ℕ} (l : Looked h writes j c s into-s seen) where
+  touched-here : into-s ≡ mask-of 32 (touches (h .free) (h .sets) (kind-of writes) s c)
+  touched-here = l .touching ∙ ap (λ (x : ℕ). mask-of 32 (touches (h .free) (h .sets) (kind-of writes) s x)) (mod-eq-of-lt (l .cell-lt))
 
-  step-code : {b : Bool} → not (eqb (circle-code found into-s seen) 0) ≡ b → code-for h (a-step (kind-of writes)) j c ≡ cond b 7 0
+  step-code : {b : Bool} → not (eqb (circle-code s into-s seen) 0) ≡ b → code-for h (a-step (kind-of writes)) j c ≡ cond b 7 0
   step-code r =
-      let o = slot-open (h .free) (h .numbers) j (l .holding) (l .some-slot) in
-      code-step h (kind-of writes) j c (lt-leb 256 c (l .cell-lt)) (slot-some h j (l .holding) (l .some-slot))
-      (circle-law h (kind-of writes) (slot found) c (l .reached) touched-here (one-shl (o .0)) (o .0) (o .1) ∙ r)
+      let o = l .found in
+      code-step h (kind-of writes) j c (lt-leb 256 c (l .cell-lt)) (l .found .first)
+      (circle-law h (kind-of writes) s c (l .reached) touched-here (one-shl (o .inside)) (o .inside) (o .was-open) ∙ r)
 
-  pub does-step-circle : {r : Moved} → (circle-code found into-s seen ≡ 0 → ⊥) → Refused h Circle r → Does h (a-step (kind-of writes)) j c r (h .numbers) (h .leads) (h .sets)
-  does-step-circle f = refuses 7 (step-code (ap not (ne-eqb (circle-code found into-s seen) 0 f))) refl refl
+  pub does-step-circle : {r : Moved} → (circle-code s into-s seen ≡ 0 → ⊥) → Refused h Circle r → Does h (a-step (kind-of writes)) j c r (h .numbers) (h .leads) (h .sets)
+  does-step-circle f = refuses 7 (step-code (ap not (ne-eqb (circle-code s into-s seen) 0 f))) refl refl
 
-  pub does-step-granted : {job : JobNumber} {leads sets : List ℕ} → job .0 ≡ j → circle-code found into-s seen ≡ 0
-      → leads ≡ gained (h .leads) (bit into-s) (2 ^ slot found) → sets ≡ marked-own (h .sets) (slot found) (cond writes 4 0) (c % 256)
+  pub does-step-granted : {job : JobNumber} {leads sets : List ℕ} → job .0 ≡ j → circle-code s into-s seen ≡ 0
+      → leads ≡ gained (h .leads) (bit into-s) (2 ^ s) → sets ≡ marked-own (h .sets) s (cond writes 4 0) (c % 256)
       → Does h (a-step (kind-of writes)) j c (record { next = h .next; free = h .free; answer = Granted job }) (h .numbers) leads sets
   unfolding moved stepped-at open-at leads-at touched cell-at word-at job-of
   does-step-granted n z ls ss =
-      does-by 0 (step-code (ap not (eq-eqb (circle-code found into-s seen) 0 z))) (λ i. record { code = 0; job = n i })
-      (lent-same refl refl refl (ls ∙ gained-by (h .leads) (touches (h .free) (h .sets) (kind-of writes) (slot found) c) (2 ^ slot found) touched-here)
-      (ss ∙ ap₂ (marked-own (h .sets) (slot found)) (own-place writes) (mod-eq-of-lt (l .cell-lt)))
-      ∙ ap (λ (o : Option ℕ). with-slot o (λ s. stepped-at h (kind-of writes) s c) h) (sym (slot-some h j (l .holding) (l .some-slot))))
+      does-by 0 (step-code (ap not (eq-eqb (circle-code s into-s seen) 0 z))) (λ i. record { code = 0; job = n i })
+      (lent-same refl refl refl (ls ∙ gained-by (h .leads) (touches (h .free) (h .sets) (kind-of writes) s c) (2 ^ s) touched-here)
+      (ss ∙ ap₂ (marked-own (h .sets) s) (own-place writes) (mod-eq-of-lt (l .cell-lt)))
+      ∙ ap (λ (o : Option ℕ). with-slot o (λ s. stepped-at h (kind-of writes) s c) h) (sym (l .found .first)))
 
 -- ---- a slot that is left
 
@@ -513,38 +529,35 @@ abandon-code : (h : Held) (j c : ℕ) {s : ℕ} {words : List ℕ} {is-empty b :
     → words ≡ take 4 (drop (s * 16 + 4) (h .sets)) → is-empty ≡ empty words → not is-empty ≡ b → code-for h an-abandon j c ≡ cond b 4 0
 abandon-code h j c {s} e ew eb y = code-abandon h j c e (altered-law h s ∙ ap (λ (l : List ℕ). not (empty l)) (sym ew) ∙ ap not (sym eb) ∙ y)
 
-module _ {h : Held} {j c found : ℕ} {r : Moved} (e : found ≡ mask-of 32 (holds (h .free) (h .numbers) j)) (ne : found ≡ 0 → ⊥) where
-  pub does-end-granted : {from : ℕ} {leads₁ sets₁ numbers leads sets : List ℕ} → h .free < 2 ^ 32 → from ≡ mask-of 32 (leads-to (h .free) (h .leads) (slot found))
-      → sets₁ ≡ folded (h .sets) (bit from) (slot found) → leads₁ ≡ gained (h .leads) (bit from) (theirs (h .free) (h .leads) (slot found))
-      → Leaves (lent (h .next) (h .free) (h .numbers) leads₁ sets₁) (slot found) j r numbers leads sets → Does h an-end j c r numbers leads sets
+module _ {h : Held} {j c s : ℕ} {r : Moved} (f : Found h j s) where
+  pub does-end-granted : {from : ℕ} {leads₁ sets₁ numbers leads sets : List ℕ} → h .free < 2 ^ 32 → from ≡ mask-of 32 (leads-to (h .free) (h .leads) s)
+      → sets₁ ≡ folded (h .sets) (bit from) s → leads₁ ≡ gained (h .leads) (bit from) (theirs (h .free) (h .leads) s)
+      → Leaves (lent (h .next) (h .free) (h .numbers) leads₁ sets₁) s j r numbers leads sets → Does h an-end j c r numbers leads sets
   unfolding moved ended-at leads-at open-at job-of
   does-end-granted {from} {leads₁} {sets₁} fits ef es el l =
-      does-by 0 (code-end h j c (slot-some h j e ne)) (l .2)
+      does-by 0 (code-end h j c (f .first)) (l .2)
       (left-as h t s j r leads₁ sets₁ fits
       (λ i q. ap (λ (x : List ℕ). getD x i 0) (el ∙ gained-by (h .leads) t gain ef) ∙ getD-tab 32 (row-gains (h .leads) t gain) i 0 q)
       (λ w q. ap (λ (x : List ℕ). getD x w 0) (es ∙ folded-by (h .sets) t s ef) ∙ getD-tab 512 (word-folds (h .sets) t s) w 0 q)
-      l ∙ ap (λ (o : Option ℕ). with-slot o (λ s. ended-at h s) h) (sym (slot-some h j e ne)))
+      l ∙ ap (λ (o : Option ℕ). with-slot o (λ s. ended-at h s) h) (sym (f .first)))
     where
-      s : ℕ
-      s = slot found
-
       t : ℕ → Bool
       t = leads-to (h .free) (h .leads) s
 
       gain : ℕ
       gain = theirs (h .free) (h .leads) s
 
-  module _ {words : List ℕ} {is-empty : Bool} (ew : words ≡ take 4 (drop (slot found * 16 + 4) (h .sets))) (eb : is-empty ≡ empty words) where
+  module _ {words : List ℕ} {is-empty : Bool} (ew : words ≡ take 4 (drop (s * 16 + 4) (h .sets))) (eb : is-empty ≡ empty words) where
     pub does-abandon-written : not is-empty ≡ true → Refused h HasWritten r → Does h an-abandon j c r (h .numbers) (h .leads) (h .sets)
-    does-abandon-written y = refuses 4 (abandon-code h j c (slot-some h j e ne) ew eb y) refl refl
+    does-abandon-written y = refuses 4 (abandon-code h j c (f .first) ew eb y) refl refl
 
-    pub does-abandon-granted : {numbers leads sets : List ℕ} → not is-empty ≡ false → h .free < 2 ^ 32 → Leaves h (slot found) j r numbers leads sets
+    pub does-abandon-granted : {numbers leads sets : List ℕ} → not is-empty ≡ false → h .free < 2 ^ 32 → Leaves h s j r numbers leads sets
         → Does h an-abandon j c r numbers leads sets
     unfolding moved abandoned-at job-of
     does-abandon-granted y fits l =
-        does-by 0 (abandon-code h j c (slot-some h j e ne) ew eb y) (l .2)
-        (left-as h (λ i. false) (slot found) j r (h .leads) (h .sets) fits (λ i q. refl) (λ w q. refl) l
-        ∙ ap (λ (o : Option ℕ). with-slot o (λ s. abandoned-at h s) h) (sym (slot-some h j e ne)))
+        does-by 0 (abandon-code h j c (f .first) ew eb y) (l .2)
+        (left-as h (λ i. false) s j r (h .leads) (h .sets) fits (λ i q. refl) (λ w q. refl) l
+        ∙ ap (λ (o : Option ℕ). with-slot o (λ s. abandoned-at h s) h) (sym (f .first)))
 
 -- ---- a request of eight bytes
 

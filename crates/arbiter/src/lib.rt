@@ -5,6 +5,7 @@ ghost use mathlib.Core.Bool.{Bool, true, false, not, _&&_, _||_, cond};
 ghost use mathlib.Core.List.{List, [], _++_};
 ghost use Prim.Native.Nat.{ℕ, _+_, _-_, _*_, _/_, _%_, _^_, _≤_, _<_};
 ghost use lib.Bits.{bitOr, bitAnd};
+ghost use lib.Count.{trailingZeros};
 ghost use lib.Dec.{T, leb, eqb};
 ghost use lib.ListN.{length, getD, take, drop};
 ghost use Rattle.graph.specs.Lists.{only};
@@ -94,6 +95,23 @@ fn holding(free: u32, numbers: &[u32; 32], job: JobNumber) -> u32
     found & !free
 }
 
+// The lowest open slot that holds the number, or 32. The lowest slot of all that holds it is nearly always open; only where it is not, every number is looked at.
+fn slot_for(free: u32, numbers: &[u32; 32], job: JobNumber) -> u32
+    ensures { λ r. ⌜ r ≡ trailingZeros 32 (mask-of 32 (λ i. not (bit free i) && eqb (getD (now (numbers .entry)) i 0) (job .0))) ⌝ }
+{
+    let mut i: u32 = 0;
+    while i < 32 {
+        if numbers[i as usize] == job.0 {
+            if free & (1u32 << i) == 0 {
+                return i;
+            }
+            return u32::trailing_zeros(holding(free, numbers, job));
+        }
+        i += 1;
+    }
+    32
+}
+
 // The other open slots whose rows lead to the slot.
 fn leading(free: u32, leads: &[u32; 32], slot: Slot) -> u32
     requires { ⌜ slot .0 < 32 ⌝ }
@@ -156,23 +174,51 @@ fn clashing_past(sets: &[u64; 512], row: Slot, write: bool, place: usize) -> u64
     sets[at + (12 + place)]
 }
 
+// The rows below `to` that clash with a step on the cell, own and past together, from those below `from`. Slot 32 is no row, so that no row is the asking one.
+fn clashing_rows(sets: &[u64; 512], below: u32, from: u32, to: u32, write: bool, cell: Cell) -> u32
+    requires { ⌜ (from ≤ to) × (to ≤ 32) × (below ≡ mask-of from (λ i. touched (sets-only (now sets)) (kind-of write) 32 (cell .0) i)) ⌝ }
+    ensures { λ r. ⌜ r ≡ mask-of to (λ i. touched (sets-only (now (sets .entry))) (kind-of write) 32 (cell .0) i) ⌝ }
+{
+    let place = cell.place();
+    let mark = cell.mark();
+    let mut found = below;
+    let mut i = from;
+    while i < to {
+        if clashing(sets, Slot(i), write, place) & mark != 0 {
+            found |= 1u32 << i;
+        }
+        i += 1;
+    }
+    found
+}
+
+// Those of the slots that clash so. Slots are taken from the lowest up, so eight rows at a time are looked at, as far as the slots go.
+fn clashing_among(slots: u32, sets: &[u64; 512], write: bool, cell: Cell) -> u32
+    ensures { λ r. ⌜ r ≡ mask-of 32 (λ i. bit slots i && touched (sets-only (now (sets .entry))) (kind-of write) 32 (cell .0) i) ⌝ }
+{
+    let eight = clashing_rows(sets, 0, 0, 8, write, cell);
+    if slots < 256 {
+        return eight & slots;
+    }
+    let sixteen = clashing_rows(sets, eight, 8, 16, write, cell);
+    if slots < 65536 {
+        return sixteen & slots;
+    }
+    let most = clashing_rows(sets, sixteen, 16, 24, write, cell);
+    if slots < 16777216 {
+        return most & slots;
+    }
+    clashing_rows(sets, most, 24, 32, write, cell) & slots
+}
+
 // The open slots that come to lead to the asking slot, which is open, at its step.
 fn touching(free: u32, sets: &[u64; 512], slot: Slot, write: bool, cell: Cell) -> u32
     requires { ⌜ (slot .0 < 32) × (bit free (slot .0) ≡ false) ⌝ }
     ensures { λ r. ⌜ r ≡ mask-of 32 (λ i. not (bit free i) && touched (sets-only (now (sets .entry))) (kind-of write) (slot .0) (cell .0) i) ⌝ }
 {
-    let place = cell.place();
-    let mark = cell.mark();
-    let mut todo = !free & !(1u32 << slot.0);
-    let mut found: u32 = 0;
-    while todo != 0 {
-        let i = u32::trailing_zeros(todo);
-        todo &= todo - 1;
-        if clashing(sets, Slot(i), write, place) & mark != 0 {
-            found |= 1u32 << i;
-        }
-    }
-    if clashing_past(sets, slot, write, place) & mark != 0 {
+    let others = !free & !(1u32 << slot.0);
+    let mut found = clashing_among(others, sets, write, cell);
+    if clashing_past(sets, slot, write, cell.place()) & cell.mark() != 0 {
         found |= 1u32 << slot.0;
     }
     found
@@ -362,11 +408,11 @@ fn step_job(
     if 256 <= cell {
         return refused(next, free, Answer::NoCell);
     }
-    let found = holding(free, numbers, job);
-    if found == 0 {
+    let at = slot_for(free, numbers, job);
+    if 32 <= at {
         return refused(next, free, Answer::NotOpen);
     }
-    let slot = Slot(u32::trailing_zeros(found));
+    let slot = Slot(at);
     let real = Cell((cell % 256) as u8);
     let touched = touching(free, sets, slot, write, real);
     let seen = reached(free, leads, slot);
@@ -420,11 +466,11 @@ fn end_job(
 ) -> Moved
     ensures { λ r. ⌜ Does (lent next free (now (numbers .entry)) (now (leads .entry)) (now (sets .entry))) an-end (job .0) 0 r (now (numbers .exit)) (now (leads .exit)) (now (sets .exit)) ⌝ }
 {
-    let found = holding(free, numbers, job);
-    if found == 0 {
+    let at = slot_for(free, numbers, job);
+    if 32 <= at {
         return refused(next, free, Answer::NotOpen);
     }
-    let slot = Slot(u32::trailing_zeros(found));
+    let slot = Slot(at);
     let from = leading(free, leads, slot);
     fold_sets(sets, from, slot);
     fold_leads(free, leads, from, slot);
@@ -441,11 +487,11 @@ fn abandon_job(
 ) -> Moved
     ensures { λ r. ⌜ Does (lent next free (now (numbers .entry)) (now (leads .entry)) (now (sets .entry))) an-abandon (job .0) 0 r (now (numbers .exit)) (now (leads .exit)) (now (sets .exit)) ⌝ }
 {
-    let found = holding(free, numbers, job);
-    if found == 0 {
+    let at = slot_for(free, numbers, job);
+    if 32 <= at {
         return refused(next, free, Answer::NotOpen);
     }
-    let slot = Slot(u32::trailing_zeros(found));
+    let slot = Slot(at);
     let written = load(sets, (slot.0 as usize) * 16 + 4);
     if !written.is_empty() {
         return refused(next, free, Answer::HasWritten);

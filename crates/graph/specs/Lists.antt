@@ -232,7 +232,7 @@ strike-shorter {j} (List·Memᴰ·tail {x = y} {xs = l} m) = go (not (eqb y j)) 
     go false h = le-step h
 
 -- a list with every member once is no longer than one that has its members
-once-le : {l k : List ℕ} → Once l → ((x : ℕ) → x ∈ l → x ∈ k) → length l ≤ length k
+pub once-le : {l k : List ℕ} → Once l → ((x : ℕ) → x ∈ l → x ∈ k) → length l ≤ length k
 once-le none f = zero-le
 once-le {l = x ∷ l} {k = k} (more n o) f =
     le-trans (suc-le-suc (once-le o (λ y m. strike-keeps (f y (later m)) (λ e. n (Memᴰ·cast (sym e) m))))) (strike-shorter (f x here))

@@ -1,2 +1,3 @@
 mod PutLaws
 mod RunLaws
+pub mod OneAnswer

@@ -1,9 +1,9 @@
--- What the contracts of the checker say: the code and place of each answer, and what the functions that it is made of leave.
+-- What the contracts of the checker and the lister say: the code and place of each answer, and what the functions that they are made of leave.
 -- Assumes nothing.
 use mathlib.Core.Path.{_≡_}
-use mathlib.Core.Bool.{Bool, true, false}
-use mathlib.Core.List.{List, []}
-use Prim.Native.Nat.{ℕ, zero}
+use mathlib.Core.Bool.{true, false}
+use mathlib.Core.List.{List}
+use Prim.Native.Nat.{ℕ}
 use lib.ListN.{length}
 use Rattle.history.specs.Events.{History, kept}
 use Rattle.history.specs.Replies.{Request}

@@ -1,6 +1,6 @@
 -- Marks of jobs: sets of places of the table of jobs, 512 marks in eight words, and tables of such sets, row after row.
 --
--- Mark i of row r stands at r * 512 + i. The rows of `Preceded` are the predecessors of each job; those of `Waiting` are, for each job that is left, jobs that wait
+-- Mark i of row r stands at r * 512 + i. The rows of `Preceded` are the predecessors of each job; those of `waiting` in `Sorted` are, for each job that is left, jobs that wait
 -- for it.
 -- Assumes nothing.
 use mathlib.Core.Path.{_≡_}

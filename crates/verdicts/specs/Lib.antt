@@ -3,4 +3,5 @@ pub mod Verdicts
 pub mod Cases
 pub mod LogLaws
 pub mod VerdictLaws
+pub mod SizeLaws
 pub mod Promises

@@ -196,7 +196,7 @@ pub record Sized (h : History) : Type 0 where
   pub few-jobs : length (opened h) ≤ most-jobs
   pub small : (j : ℕ) → j ∈ opened h → j < numbers
 
-opened-length : (h k : History) → length (opened (h ++ k)) ≡ length (opened h) + length (opened k)
+pub opened-length : (h k : History) → length (opened (h ++ k)) ≡ length (opened h) + length (opened k)
 unfolding opened
 opened-length h k = ap length (gather-append opened-by h k) ∙ length-append (gather opened-by h) (gather opened-by k)
 

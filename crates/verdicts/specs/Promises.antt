@@ -6,7 +6,7 @@
 use mathlib.Core.Path.{_≡_, refl, sym, ap, _∙_}
 use mathlib.Core.Logic.{_↔_}
 use mathlib.Core.List.{List, _∷_, _++_}
-use Prim.Native.Nat.{ℕ, _≤_}
+use Prim.Native.Nat.{ℕ, _+_, _*_, _≤_}
 use native.Mathlib.Omega.{arith}
 use lib.ListN.{length}
 use Rattle.history.specs.Events.{History, opened, kept, Step, kept-steps}
@@ -20,6 +20,7 @@ use Rattle.verdicts.specs.Logs.{Reading, faulty, events, most-jobs, read
 use Rattle.verdicts.specs.Verdicts.{check, Listed, listed, list-of, list-order}
 use Rattle.verdicts.specs.LogLaws.{Fault, faults, read-turns, read-back, Sized, granted-read}
 use Rattle.verdicts.specs.VerdictLaws.{Checked, check-right, check-exactly, ListedAs, no-room, no-order, an-order, listed-right, Answered, log-faulty, log-read, list-right}
+use Rattle.verdicts.specs.SizeLaws.{check-place, list-place, check-apart, list-apart}
 
 -- ---- the checker
 
@@ -94,6 +95,26 @@ refusal-leaves bytes lent f = kept-list (list-right bytes lent) f
     kept-list : {a : Listed} → Answered bytes lent a → (a .code ≡ 0 → ⊥) → a .list ≡ lent
     kept-list (log-faulty e) g = refl
     kept-list (log-read e t l) g = same l g
+
+-- ---- places are small
+
+-- the place of any verdict and of any answer is at most 4,095
+pub verdict-small : (bytes order : List ℕ) → check bytes order .place ≤ 4095
+verdict-small = check-place
+
+pub answer-small : (bytes lent : List ℕ) → list-order bytes lent .place ≤ 4095
+answer-small = list-place
+
+-- so the code times 2 ^ 32 plus the place, in one number, tells both: verdicts with the same number are the same, and answers have the same code and place
+pub packed-apart : (bytes order bytes′ order′ : List ℕ)
+    → check bytes order .code * 4294967296 + check bytes order .place ≡ check bytes′ order′ .code * 4294967296 + check bytes′ order′ .place
+    → check bytes order ≡ check bytes′ order′
+packed-apart = check-apart
+
+pub packed-answers-apart : (bytes lent bytes′ lent′ : List ℕ)
+    → list-order bytes lent .code * 4294967296 + list-order bytes lent .place ≡ list-order bytes′ lent′ .code * 4294967296 + list-order bytes′ lent′ .place
+    → (list-order bytes lent .code ≡ list-order bytes′ lent′ .code) × (list-order bytes lent .place ≡ list-order bytes′ lent′ .place)
+packed-answers-apart = list-apart
 
 -- ---- logs
 

@@ -4,25 +4,30 @@ use mathlib.Core.Bool.{false}
 use Prim.Native.Nat.{_<_}
 use borrow.Author.Needs.{needs}
 use Rattle.marks.specs.Marks.{bit}
-use Rattle.arbiter.proofs.RequestLaws.{slot, slot-open, leads-others, does-end-not-open, does-end-granted}
+use Rattle.held.specs.Held.{Held}
+use Rattle.arbiter.specs.Lent.{lent}
+use Rattle.arbiter.proofs.RequestLaws.{Found, slot-found, leads-others, does-end-not-open, does-end-granted}
 use Rattle.arbiter.proofs.end_job.Statement.{statement}
 use Rattle.arbiter.proofs.end_job.Tie as tie
 
 returns-not-open : tie.Need-returns
-returns-not-open c = does-end-not-open (c .before .before .holding .ensures) (c .before .if1 .taken) (c .refused .ensures)
+returns-not-open c = does-end-not-open (c .before .before .slot-for .ensures) (c .before .if1 .taken) (c .refused .ensures)
 
 -- the slot found is a slot, and not among those that lead to it
-found : (c : tie.Else1) → slot (c .before .holding .result) < 32
-found c = let a = c .before .before .before .args in slot-open (a .free) (a .numbers .now) (a .job .0) (c .before .holding .ensures) (c .if1 .left) .0
+abbrev state : tie.Else1 → Held
+state c = let a = c .before .before .before .args in lent (a .next) (a .free) (a .numbers .now) (a .leads .now) (a .sets .now)
 
-others : (c : tie.After-leading) → let s = slot (c .before .before .before .holding .result) in (s < 32) × (bit (c .leading .result) s ≡ false)
+found : (c : tie.Else1) → Found (state c) (c .before .before .before .args .job .0) (c .before .slot-for .result)
+found c = slot-found (state c) (c .before .before .before .args .job .0) (c .before .slot-for .ensures) (c .if1 .left)
+
+others : (c : tie.After-leading) → let s = c .before .before .before .slot-for .result in (s < 32) × (bit (c .leading .result) s ≡ false)
 others c =
     let e = c .before .before in
     let a = e .before .before .before .args in
-    (found e, leads-others (a .free) (a .leads .now) (slot (e .before .holding .result)) (c .leading .ensures) (found e))
+    (found e .inside, leads-others (a .free) (a .leads .now) (e .before .slot-for .result) (c .leading .ensures) (found e .inside))
 
 leading-requires : tie.Need-leading-requires
-leading-requires c κs = found (c .before)
+leading-requires c κs = found (c .before) .inside
 
 fold-sets-requires : tie.Need-fold-sets-requires
 fold-sets-requires c κs = others (c .before)
@@ -31,7 +36,7 @@ fold-leads-requires : tie.Need-fold-leads-requires
 fold-leads-requires c κs = others (c .before .before .before)
 
 leave-requires : tie.Need-leave-requires
-leave-requires c κs = found (c .before .before .before .before .before .before .before .before .before)
+leave-requires c κs = found (c .before .before .before .before .before .before .before .before .before) .inside
 
 returns-granted : tie.Need-returns-2
 returns-granted c =
@@ -39,7 +44,7 @@ returns-granted c =
     let f = l .before .before in
     let g = f .before .before in
     let e = g .before .before in
-    does-end-granted (e .before .holding .ensures) (e .if1 .left) (e .before .before .before .fits .free .fits) (g .leading .ensures) (f .fold-sets .ensures)
+    does-end-granted (found e) (e .before .before .before .fits .free .fits) (g .leading .ensures) (f .fold-sets .ensures)
     (l .fold-leads .ensures) (c .leave .ensures)
 
 pub end-job-spec : {M : Type 1} → statement M

@@ -1,11 +1,9 @@
 -- `arbiter::step_job` meets its contract: a law of RequestLaws for each way out. Assumes nothing.
-use mathlib.Core.Path.{_≡_, refl}
-use mathlib.Core.Bool.{false}
-use Prim.Native.Nat.{_<_}
+use mathlib.Core.Path.{refl}
 use borrow.Author.Needs.{needs}
-use Rattle.marks.specs.Marks.{bit}
+use Rattle.held.specs.Held.{Held}
 use Rattle.arbiter.specs.Lent.{lent}
-use Rattle.arbiter.proofs.RequestLaws.{slot, slot-open, Looked, does-step-no-cell, does-step-not-open, does-step-circle, does-step-granted}
+use Rattle.arbiter.proofs.RequestLaws.{Found, slot-found, Looked, does-step-no-cell, does-step-not-open, does-step-circle, does-step-granted}
 use Rattle.arbiter.proofs.step_job.Statement.{statement}
 use Rattle.arbiter.proofs.step_job.Tie as tie
 
@@ -13,32 +11,34 @@ returns-no-cell : tie.Need-returns
 returns-no-cell c = does-step-no-cell (c .before .if1 .taken) (c .refused .ensures)
 
 returns-not-open : tie.Need-returns-2
-returns-not-open c = does-step-not-open (c .before .before .holding .ensures) (c .before .if2 .taken) (c .before .before .before .if1 .left) (c .refused2 .ensures)
+returns-not-open c = does-step-not-open (c .before .before .slot-for .ensures) (c .before .if2 .taken) (c .before .before .before .if1 .left) (c .refused2 .ensures)
 
 -- the slot found is a slot, and open
-found : (c : tie.Else2) → let s = slot (c .before .holding .result) in (s < 32) × (bit (c .before .before .before .args .free) s ≡ false)
-found c = let a = c .before .before .before .args in slot-open (a .free) (a .numbers .now) (a .job .0) (c .before .holding .ensures) (c .if2 .left)
+abbrev state : tie.Else2 → Held
+state c = let a = c .before .before .before .args in lent (a .next) (a .free) (a .numbers .now) (a .leads .now) (a .sets .now)
+
+found : (c : tie.Else2) → Found (state c) (c .before .before .before .args .job .0) (c .before .slot-for .result)
+found c = slot-found (state c) (c .before .before .before .args .job .0) (c .before .slot-for .ensures) (c .if2 .left)
 
 touching-requires : tie.Need-touching-requires
-touching-requires c κs = found (c .before)
+touching-requires c κs = let f = found (c .before) in (f .inside, f .was-open)
 
 reached-requires : tie.Need-reached-requires
-reached-requires c κs = found (c .before .before .before) .0
+reached-requires c κs = found (c .before .before .before) .inside
 
 shl-me : tie.Need-shl-me
-shl-me c = found (c .before .before .before .before .before) .0
+shl-me c = found (c .before .before .before .before .before) .inside
 
 looked : (c : tie.After-reached)
     → let e = c .before .before .before .before in
     let a = e .before .before .before .args in
-    Looked (lent (a .next) (a .free) (a .numbers .now) (a .leads .now) (a .sets .now)) (a .write) (a .job .0) (a .cell) (e .before .holding .result)
+    Looked (state e) (a .write) (a .job .0) (a .cell) (e .before .slot-for .result)
     (c .before .before .touching .result) (c .reached .result)
 looked c =
     let e = c .before .before .before .before in
     record {
       cell-lt = e .before .before .if1 .left;
-      holding = e .before .holding .ensures;
-      some-slot = e .if2 .left;
+      found = found e;
       touching = c .before .before .touching .ensures;
       reached = c .reached .ensures;
     }
@@ -47,10 +47,10 @@ returns-circle : tie.Need-returns-3
 returns-circle c = does-step-circle (looked (c .before .before .before)) (c .before .if3 .taken) (c .refused3 .ensures)
 
 lead-to-requires : tie.Need-lead-to-requires
-lead-to-requires c κs = found (c .before .before .before .before .before .before .before) .0
+lead-to-requires c κs = found (c .before .before .before .before .before .before .before) .inside
 
 mark-own-requires : tie.Need-mark-own-requires
-mark-own-requires c κs = found (c .before .before .before .before .before .before .before .before .before) .0
+mark-own-requires c κs = found (c .before .before .before .before .before .before .before .before .before) .inside
 
 returns-granted : tie.Need-returns-4
 returns-granted c =

@@ -1,0 +1,261 @@
+/*
+ * Reedtangle for C and C++: an arbiter for overlapping jobs over 256 shared cells, a checker of orders and a lister of orders.
+ *
+ * The five functions are in two archives, made by `rt staticlib arbiter` and `rt staticlib orders` (x86-64 Linux):
+ *
+ *     cc -std=c11 -I bindings host.c target/staticlib/libarbiter.a target/staticlib/liborders.a -o host
+ *
+ * Two steps (reads and writes) conflict when their jobs differ, their cell is the same, and they are not both reads. A job is kept unless it
+ * was abandoned. An order of the kept jobs would do when any two conflicting steps come in it as they came in the log. So the words are used
+ * below; there may be an order with the same reads and ends that turns a conflicting pair round, and it is not looked for.
+ *
+ * What holds for all five:
+ *
+ * - They are total. Whatever the lent memory holds, the call comes to its end, with exactly one answer. They never stop the program.
+ * - They keep nothing between calls: no globals, no allocation, no files. All that lasts is in memory that the caller lends.
+ * - A refusal (any code but 0) changes nothing: the state, the list and the bytes that were lent stay as they were. One number is set all
+ *   the same, `*written` of reedtangle_replay: to 0.
+ *
+ * What is asked of the caller, as of any C function; a call that breaks this has no promise:
+ *
+ * - No pointer is NULL, not even with a length of 0. Each is aligned for its type, and all the memory that its length says is there to use.
+ * - What is lent to one call does not overlap. Only memory that is read alone (const) may overlap other such memory.
+ * - Nobody else writes lent memory during the call. Two threads may each use a state of their own, or take turns at one.
+ * - Room on the stack: reedtangle_list_order takes about 104,000 bytes of it, reedtangle_check_order 28,000, the others less than 6,000.
+ *
+ * Not promised: that a job gets through. One that is refused may be refused for ever.
+ *
+ * The five functions are proved (docs/PROMISES.md says what and where). The wrappers further down are plain C and are not; bindings/c/night.c
+ * tries them.
+ */
+#ifndef REEDTANGLE_H
+#define REEDTANGLE_H
+
+#include <stddef.h>
+#include <stdint.h>
+
+#ifdef __cplusplus
+extern "C" {
+#endif
+
+/* ---- sizes */
+
+enum {
+    REEDTANGLE_SLOTS = 32,          /* at most so many jobs are open at once */
+    REEDTANGLE_CELLS = 256,         /* cells are numbered 0 to 255 */
+    REEDTANGLE_SET_WORDS = 512,     /* words of the cell sets in a state */
+    REEDTANGLE_LOG_RECORDS = 4096,  /* a log has at most so many records */
+    REEDTANGLE_LOG_BYTES = 32768,   /* which is so many bytes */
+    REEDTANGLE_LOG_JOBS = 512       /* a log opens at most so many jobs */
+};
+
+/* ---- a request, and a record of a log
+ *
+ * Both are eight bytes:
+ *
+ *     byte   0      the kind, 1 to 5
+ *     byte   1      0
+ *     bytes  2, 3   the cell, low byte first
+ *     bytes  4..7   the job, low byte first
+ *
+ *     kind            cell in a request   job in a request   cell in a record   job in a record
+ *     1  open         ignored             ignored            0                  the number issued
+ *     2  read         the cell            the asking job     the cell           the asking job
+ *     3  write        the cell            the asking job     the cell           the asking job
+ *     4  end          ignored             the asking job     0                  the asking job
+ *     5  abandon      ignored             the asking job     0                  the asking job
+ *
+ * A read of cell 5 by job 1 is 02 00 05 00 01 00 00 00. A log is the records of what was granted, in the sequence of the grants, and
+ * nothing else: reedtangle_put_record below makes the record of a granted request.
+ */
+
+enum {
+    REEDTANGLE_OPEN = 1,
+    REEDTANGLE_READ = 2,
+    REEDTANGLE_WRITE = 3,
+    REEDTANGLE_END = 4,
+    REEDTANGLE_ABANDON = 5
+};
+
+/* ---- codes */
+
+enum {
+    /* all: granted, accepted, listed, done */
+    REEDTANGLE_GRANTED = 0,
+
+    /* reedtangle_step, and each answer of reedtangle_replay. Tested in this sequence: open 1, 6, 5; read and write 1, 2, 3, 7;
+       end 1, 3; abandon 1, 3, 4. The first that holds is given. */
+    REEDTANGLE_MALFORMED = 1,       /* the kind is none of 1 to 5, or byte 1 is not 0 */
+    REEDTANGLE_NO_CELL = 2,         /* the cell of a read or write is 256 or more */
+    REEDTANGLE_NOT_OPEN = 3,        /* the asking job is not open */
+    REEDTANGLE_HAS_WRITTEN = 4,     /* an abandon of a job that has written */
+    REEDTANGLE_FULL = 5,            /* an open while 32 jobs are open */
+    REEDTANGLE_SPENT = 6,           /* an open after job number 4,294,967,295 was issued */
+    REEDTANGLE_CIRCLE = 7,          /* with this read or write no order of the jobs would do */
+
+    /* checker and lister: the log is at fault. The place is that of the first faulty record, counted from 0; for 11 it is 0. */
+    REEDTANGLE_LENGTH = 11,         /* the length is no multiple of 8, or over 32,768 bytes */
+    REEDTANGLE_FORM = 12,           /* a record with a wrong kind, byte 1 or cell */
+    REEDTANGLE_TURN = 13,           /* an open whose number is not above those before it; a job that is not open there; an abandon of a
+                                       job that has written */
+    REEDTANGLE_TOO_MANY = 14,       /* an open with 512 opens before it */
+
+    /* checker */
+    REEDTANGLE_ENTRY = 15,          /* place: the first entry that is no kept job, or a repeated one; or else, where the list lacks a
+                                       kept job, its length */
+    REEDTANGLE_BACKWARD = 16,       /* place: the first record that conflicts with an earlier one whose job the order puts later */
+
+    /* lister */
+    REEDTANGLE_NO_ORDER = 17,       /* place 0: no order would do */
+    REEDTANGLE_SHORT = 18,          /* place: the count of kept jobs, more than the list has entries */
+
+    /* reedtangle_replay */
+    REEDTANGLE_NO_ROOM = 24         /* the answers do not fit */
+};
+
+/* ---- the five functions */
+
+/*
+ * A fresh state, with no job open, in memory that the host keeps: `next` and `free` are one number each, `numbers` and `leads` 32 each,
+ * `sets` 512. The first job opened gets the number `first`, which may be any. What the memory held before does not matter.
+ */
+void reedtangle_fresh(uint32_t first, uint64_t *next, uint32_t *free, uint32_t *numbers, uint32_t *leads, uint64_t *sets);
+
+/*
+ * One request, eight bytes, on a state that the host keeps. Comes back: code times 2^32 plus job. The code is 0 to 7. The job is the number
+ * issued for a granted open, the asking job for any other grant, and 0 for a refusal; since 0 is a job number too, go by the code.
+ *
+ * From a fresh state through any requests, each answer is the one that the whole history gives: a read or write of an open job on a real
+ * cell gets 7 exactly when no order of the jobs would do with it. On a refusal no bit of the state changes. For a state with any other
+ * content the call still ends, with one answer and one next state; then nothing is said of a history.
+ */
+uint64_t reedtangle_step(uint64_t *next, uint32_t *free, uint32_t *numbers, uint32_t *leads, uint64_t *sets, const uint8_t *request);
+
+/*
+ * Many requests from a fresh state of its own, which is gone afterwards. In: the first number, `length` bytes of requests, any bytes, and
+ * `room` bytes for the answers. A tail of 1 to 7 bytes is no request and is not read. Comes back:
+ *
+ *     0    each request has eight bytes of answer, code and job, four each, low byte first; `*written` is the count of those bytes, and
+ *          bytes past them stay.
+ *     24   the room is less than eight bytes a request; nothing is written to `answers`, and `*written` is 0.
+ *
+ * The answers are those of the whole history, and so those of reedtangle_step one by one.
+ */
+uint32_t reedtangle_replay(uint32_t first, const uint8_t *requests, size_t length, uint8_t *answers, size_t room, uint64_t *written);
+
+/*
+ * Would this order do for the log? In: `length` bytes of log, and `entries` job numbers, any of both. Comes back: code times 2^32 plus place.
+ *
+ *     0          accepted; the place is the count of kept jobs
+ *     11 to 16   refused; the place is as the codes above say
+ *
+ * 0 comes exactly when the log has no fault, the order has each kept job once and nothing else, and it would do. Running the kept jobs one at
+ * a time in that order then shows each of their reads the same value, and leaves each cell the same, as the log did. Nothing is written.
+ */
+uint64_t reedtangle_check_order(const uint8_t *log, size_t length, const uint32_t *order, size_t entries);
+
+/*
+ * An order for the log. In: `length` bytes of log, any bytes, and room for `room` job numbers. Comes back: code times 2^32 plus place.
+ *
+ *     0                    the order is in `out`, the lowest ready job first; the place is the count of kept jobs, and entries past them stay
+ *     11 to 14, 17, 18     refused; the place is as the codes above say, and all of `out` stays
+ *
+ * With room, an order comes exactly when there is one, and 17 exactly when there is none. 512 entries are always room enough. The log of
+ * what a fresh state granted, within the sizes above, is never at fault and never gets 17.
+ */
+uint64_t reedtangle_list_order(const uint8_t *log, size_t length, uint32_t *out, size_t room);
+
+/* ---- the state as one piece, and wrappers that take it */
+
+/*
+ * What a host keeps, 4,368 bytes, of which four are padding. Plain numbers: it may be copied, saved and read back. To be made by reedtangle_start
+ * and changed by reedtangle_ask alone, if the answers are to be those of a history.
+ */
+typedef struct reedtangle_state {
+    uint64_t next;                          /* the number that the next open gets; 2^32 once there is none left */
+    uint32_t free;                          /* bit i: slot i is free */
+    uint32_t numbers[REEDTANGLE_SLOTS];     /* the job in each slot */
+    uint32_t leads[REEDTANGLE_SLOTS];       /* bit j of the i-th: the job in slot i leads to the one in slot j */
+    uint64_t sets[REEDTANGLE_SET_WORDS];    /* sixteen words a slot, four a cell set: own reads, own writes, past reads, past writes */
+} reedtangle_state;
+
+#ifdef __cplusplus
+static_assert(sizeof(reedtangle_state) == 4368, "the state is 4,368 bytes");
+#else
+_Static_assert(sizeof(reedtangle_state) == 4368, "the state is 4,368 bytes");
+#endif
+
+/* A code with a job. */
+typedef struct reedtangle_reply {
+    uint32_t code;
+    uint32_t job;
+} reedtangle_reply;
+
+/* A code with a place. */
+typedef struct reedtangle_verdict {
+    uint32_t code;
+    uint32_t place;
+} reedtangle_verdict;
+
+/* reedtangle_fresh on a state. */
+static inline void reedtangle_start(reedtangle_state *state, uint32_t first)
+{
+    reedtangle_fresh(first, &state->next, &state->free, state->numbers, state->leads, state->sets);
+}
+
+/* reedtangle_step on a state. The eight bytes of the request are not within the state. */
+static inline reedtangle_reply reedtangle_ask(reedtangle_state *state, const uint8_t *request)
+{
+    uint64_t both = reedtangle_step(&state->next, &state->free, state->numbers, state->leads, state->sets, request);
+    reedtangle_reply reply;
+    reply.code = (uint32_t)(both >> 32);
+    reply.job = (uint32_t)both;
+    return reply;
+}
+
+/* reedtangle_check_order, its answer taken apart. */
+static inline reedtangle_verdict reedtangle_check(const uint8_t *log, size_t length, const uint32_t *order, size_t entries)
+{
+    uint64_t both = reedtangle_check_order(log, length, order, entries);
+    reedtangle_verdict verdict;
+    verdict.code = (uint32_t)(both >> 32);
+    verdict.place = (uint32_t)both;
+    return verdict;
+}
+
+/* reedtangle_list_order, its answer taken apart. */
+static inline reedtangle_verdict reedtangle_list(const uint8_t *log, size_t length, uint32_t *out, size_t room)
+{
+    uint64_t both = reedtangle_list_order(log, length, out, room);
+    reedtangle_verdict verdict;
+    verdict.code = (uint32_t)(both >> 32);
+    verdict.place = (uint32_t)both;
+    return verdict;
+}
+
+/* Puts a request into eight bytes. Only its layout: what is wrong with it, the step will say. */
+static inline void reedtangle_put_request(uint8_t *bytes, uint8_t kind, uint16_t cell, uint32_t job)
+{
+    bytes[0] = kind;
+    bytes[1] = 0;
+    bytes[2] = (uint8_t)(cell & 255);
+    bytes[3] = (uint8_t)(cell >> 8);
+    bytes[4] = (uint8_t)(job & 255);
+    bytes[5] = (uint8_t)((job >> 8) & 255);
+    bytes[6] = (uint8_t)((job >> 16) & 255);
+    bytes[7] = (uint8_t)(job >> 24);
+}
+
+/* Puts into eight bytes the record of a request that was granted with this job. */
+static inline void reedtangle_put_record(uint8_t *bytes, const uint8_t *request, uint32_t job)
+{
+    int step = request[0] == REEDTANGLE_READ || request[0] == REEDTANGLE_WRITE;
+    uint16_t cell = step ? (uint16_t)(request[2] | (request[3] << 8)) : (uint16_t)0;
+    reedtangle_put_request(bytes, request[0], cell, job);
+}
+
+#ifdef __cplusplus
+}
+#endif
+
+#endif

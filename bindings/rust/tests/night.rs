@@ -1,0 +1,434 @@
+//! What bindings/c/night.c does, through this crate: replies worked out by hand, `ask` against `replay` over the same requests, and orders
+//! against a slow judge written here.
+use reedtangle::*;
+
+/// Document 01's code and job of a reply.
+fn numbers(reply: Result<Job, Refusal>) -> (u32, u32) {
+    match reply {
+        Ok(job) => (0, job.0),
+        Err(refusal) => (refusal.code(), 0),
+    }
+}
+
+/// One request. A grant goes to the log; a refusal must leave the state as it was.
+fn ask(arbiter: &mut Arbiter, log: &mut Vec<u8>, request: [u8; 8]) -> Result<Job, Refusal> {
+    let before = arbiter.clone();
+    let reply = arbiter.ask(request);
+    match reply {
+        Ok(job) => log.extend(record(request, job)),
+        Err(_) => assert!(*arbiter == before, "a refusal changed the state"),
+    }
+    reply
+}
+
+/// Kind, byte 1, cell and job of a request, and the code and job expected.
+type Row = (u8, u8, u16, u32, u32, u32);
+
+fn bytes(row: &Row) -> [u8; 8] {
+    let mut bytes = request::of(row.0, row.2, row.3);
+    bytes[1] = row.1;
+    bytes
+}
+
+/// The night of examples/night.sh. Job 2 read cell 5 before job 1 wrote it, so its own write of cell 5 would close a circle.
+const NIGHT: [Row; 11] = [
+    (1, 0, 0, 0, 0, 1),
+    (1, 0, 0, 0, 0, 2),
+    (2, 0, 5, 2, 0, 2),
+    (3, 0, 5, 1, 0, 1),
+    (4, 0, 0, 1, 0, 1),
+    (1, 0, 0, 0, 0, 3),
+    (2, 0, 6, 3, 0, 3),
+    (4, 0, 0, 3, 0, 3),
+    (3, 0, 6, 2, 0, 2),
+    (3, 0, 5, 2, 7, 0),
+    (4, 0, 0, 2, 0, 2),
+];
+
+/// Another one, from job 70,000: the refusals 1 to 4 and 7, and fields that are ignored.
+const OTHER: [Row; 16] = [
+    (1, 0, 0, 0, 0, 70000),
+    (1, 0, 0, 0, 0, 70001),
+    (3, 0, 7, 70000, 0, 70000),
+    (2, 0, 7, 70001, 0, 70001),
+    (3, 0, 9, 70001, 0, 70001),
+    (4, 0, 0, 70001, 0, 70001),
+    (2, 0, 9, 70000, 7, 0),
+    (5, 0, 0, 70000, 4, 0),
+    (4, 0, 65535, 70000, 0, 70000),
+    (2, 0, 300, 70002, 2, 0),
+    (1, 0, 9, 9, 0, 70002),
+    (2, 0, 0, 70000, 3, 0),
+    (2, 1, 0, 70002, 1, 0),
+    (6, 0, 0, 70002, 1, 0),
+    (2, 0, 255, 70002, 0, 70002),
+    (5, 0, 0, 70002, 0, 70002),
+];
+
+/// The two nights, turn by turn, each on its own state; their logs.
+fn two_nights() -> (Vec<u8>, Vec<u8>) {
+    let mut one = Arbiter::new(1);
+    let mut two = Arbiter::new(70000);
+    let (mut log_one, mut log_two) = (Vec::new(), Vec::new());
+    for (i, row) in OTHER.iter().enumerate() {
+        if let Some(row) = NIGHT.get(i) {
+            let reply = numbers(ask(&mut one, &mut log_one, bytes(row)));
+            assert_eq!(reply, (row.4, row.5), "request {i} of the night");
+        }
+        let reply = numbers(ask(&mut two, &mut log_two, bytes(row)));
+        assert_eq!(reply, (row.4, row.5), "request {i} of the other night");
+    }
+    // every job has ended or was abandoned: nothing is held but the next number
+    assert_eq!(one, Arbiter::new(4));
+    assert_eq!(two, Arbiter::new(70003));
+    (log_one, log_two)
+}
+
+#[test]
+fn the_night() {
+    let (one, two) = two_nights();
+    assert_eq!((one.len(), two.len()), (80, 80));
+}
+
+#[test]
+fn orders_by_hand() {
+    let (log, other) = two_nights();
+    let mut list = [90, 91, 92, 93, 94];
+    assert_eq!(list_order(&log, &mut list), Ok(3));
+    assert_eq!(list, [3, 2, 1, 93, 94]);
+    assert_eq!(check_order(&log, &list[..3]), Ok(3));
+    assert_eq!(check_order(&log, &[1, 2, 3]), Err(BadOrder::Backward(3)));
+    assert_eq!(check_order(&log, &[3, 2, 1, 3]), Err(BadOrder::Entry(3)));
+    assert_eq!(check_order(&log, &[3, 2]), Err(BadOrder::Entry(2)));
+    assert_eq!(check_order(&log, &[3, 9]), Err(BadOrder::Entry(1)));
+    // the abandoned job of the other night is no kept job; 70,000 wrote cell 7 before 70,001 read it
+    assert_eq!(list_order(&other, &mut list[..2]), Ok(2));
+    assert_eq!(list, [70000, 70001, 1, 93, 94]);
+    assert_eq!(check_order(&[], &[]), Ok(0));
+    assert_eq!(list_order(&[], &mut []), Ok(0));
+}
+
+#[test]
+fn logs_by_hand() {
+    let (log, _) = two_nights();
+    let both = |log: &[u8], fault: Fault| {
+        let mut list = [90, 91, 92];
+        assert_eq!(list_order(log, &mut list), Err(NoList::Log(fault)));
+        assert_eq!(list, [90, 91, 92]);
+        assert_eq!(check_order(log, &[3, 2, 1]), Err(BadOrder::Log(fault)));
+    };
+    both(&log[..79], Fault::Length);
+    both(&[0; LOG_BYTES + 8], Fault::Length);
+    let mut bad = log.clone();
+    bad[2 * 8 + 3] = 1;
+    both(&bad, Fault::Form(2));
+    let mut bad = log.clone();
+    bad[5 * 8 + 4] = 2;
+    both(&bad, Fault::Turn(5));
+    let opens: Vec<u8> = (0..513).flat_map(|n| request::of(1, 0, n)).collect();
+    both(&opens, Fault::TooMany(512));
+
+    let mut list = [90, 91, 92];
+    assert_eq!(list_order(&log, &mut list[..2]), Err(NoList::Short(3)));
+    // the write that the arbiter refused, put into the log all the same, before job 2 ends
+    let mut bad = log[..72].to_vec();
+    bad.extend(request::write(Job(2), 5));
+    assert_eq!(list_order(&bad, &mut list), Err(NoList::NoOrder));
+    assert_eq!(list, [90, 91, 92]);
+}
+
+#[test]
+fn codes_and_places() {
+    let codes: Vec<u32> = (0..10)
+        .filter_map(Refusal::from_code)
+        .map(Refusal::code)
+        .collect();
+    assert_eq!(codes, [1, 2, 3, 4, 5, 6, 7]);
+    assert_eq!(NoRoom.code(), 24);
+    let faults = [
+        Fault::Length,
+        Fault::Form(1),
+        Fault::Turn(2),
+        Fault::TooMany(3),
+    ];
+    assert_eq!(
+        faults.map(|f| (f.code(), f.place())),
+        [(11, 0), (12, 1), (13, 2), (14, 3)]
+    );
+    let orders = [
+        BadOrder::Log(Fault::Form(1)),
+        BadOrder::Entry(4),
+        BadOrder::Backward(5),
+    ];
+    assert_eq!(
+        orders.map(|o| (o.code(), o.place())),
+        [(12, 1), (15, 4), (16, 5)]
+    );
+    let lists = [
+        NoList::Log(Fault::Turn(2)),
+        NoList::NoOrder,
+        NoList::Short(6),
+    ];
+    assert_eq!(
+        lists.map(|l| (l.code(), l.place())),
+        [(13, 2), (17, 0), (18, 6)]
+    );
+}
+
+#[test]
+fn ends_of_ranges() {
+    let mut one = Arbiter::new(0);
+    for i in 0..SLOTS as u32 {
+        assert_eq!(one.open(), Ok(Job(i)));
+    }
+    let before = one.clone();
+    assert_eq!(one.open(), Err(Refusal::Full));
+    assert_eq!(one, before);
+
+    let mut two = Arbiter::new(u32::MAX);
+    assert_eq!(two.open(), Ok(Job(u32::MAX)));
+    let before = two.clone();
+    assert_eq!(two.open(), Err(Refusal::Spent));
+    assert_eq!(two, before);
+}
+
+#[test]
+fn replay_by_hand() {
+    let requests = [1, 0, 0, 0, 0, 0, 0, 0, 2, 0, 5, 0, 2, 0, 0, 0, 1, 1, 1];
+    let mut answers = [200; 20];
+    assert_eq!(replay(1, &requests, &mut answers[..15]), Err(NoRoom));
+    assert_eq!(answers, [200; 20]);
+    assert_eq!(replay(1, &requests, &mut answers), Ok(16));
+    assert_eq!(
+        answers,
+        [0, 0, 0, 0, 1, 0, 0, 0, 3, 0, 0, 0, 0, 0, 0, 0, 200, 200, 200, 200]
+    );
+    assert_eq!(replay(1, &[], &mut []), Ok(0));
+}
+
+/// What the fields of a state hold, number by number; and a state that is kept and gone on from.
+#[test]
+fn states() {
+    assert_eq!(std::mem::size_of::<State>(), 4368);
+    let mut one = Arbiter::new(100);
+    let [a, b] = [one.open(), one.open()].map(|job| job.unwrap());
+    assert_eq!(one.read(b, 5), Ok(b));
+    assert_eq!(one.write(b, 69), Ok(b));
+    assert_eq!(one.write(a, 5), Ok(a));
+    let mut want = State {
+        next: 102,
+        free: 0xffff_fffc,
+        numbers: [0; 32],
+        leads: [0; 32],
+        sets: [0; 512],
+    };
+    want.numbers[..2].copy_from_slice(&[100, 101]);
+    want.leads[1] = 1; // job 101, in slot 1, leads to job 100, in slot 0
+    want.sets[4] = 1 << 5; // own writes of slot 0: cell 5
+    want.sets[16] = 1 << 5; // own reads of slot 1: cell 5
+    want.sets[16 + 5] = 1 << 5; // own writes of slot 1, second word: cell 64 + 5
+    assert_eq!(*one.state(), want);
+
+    let mut two = Arbiter::from_state(one.state().clone());
+    assert_eq!(two, one);
+    assert_eq!(two.end(a), Ok(a));
+    want.free = 0xffff_fffd;
+    want.numbers[0] = 0;
+    want.leads[1] = 0;
+    want.sets[4] = 0;
+    want.sets[16 + 12] = 1 << 5; // past writes of slot 1: cell 5
+    assert_eq!(*two.state(), want);
+    assert_eq!(two.write(b, 5), Err(Refusal::Circle));
+    assert_eq!(*two.state(), want);
+}
+
+/// A state that no requests give gets answers all the same.
+#[test]
+fn any_content() {
+    // job 7 in all 32 slots, each row leading everywhere
+    let full = State {
+        next: u64::MAX,
+        free: 0,
+        numbers: [7; 32],
+        leads: [u32::MAX; 32],
+        sets: [u64::MAX; 512],
+    };
+    let mut odd = Arbiter::from_state(full);
+    assert_eq!(odd.open(), Err(Refusal::Spent));
+    assert_eq!(odd.read(Job(7), 0), Err(Refusal::Circle));
+    assert_eq!(odd.abandon(Job(7)), Err(Refusal::HasWritten));
+    assert_eq!(odd.read(Job(8), 0), Err(Refusal::NotOpen));
+    assert_eq!(odd.end(Job(7)), Ok(Job(7)));
+    assert_eq!(odd.state().free, 1);
+}
+
+// ---- many requests by a simple rule
+
+const MANY: usize = 2000;
+
+/// A fixed sequence, the same as that of the C program.
+struct Rule(u32);
+
+impl Rule {
+    fn below(&mut self, n: u32) -> u32 {
+        self.0 = self.0.wrapping_mul(1664525).wrapping_add(1013904223);
+        (self.0 >> 8) % n
+    }
+}
+
+struct Host {
+    arbiter: Arbiter,
+    log: Vec<u8>,
+    first: u32,
+    opened: u32,
+    open: Vec<u32>,
+    requests: Vec<u8>,
+    replies: Vec<u8>,
+}
+
+impl Host {
+    fn new(first: u32) -> Host {
+        Host {
+            arbiter: Arbiter::new(first),
+            log: Vec::new(),
+            first,
+            opened: 0,
+            open: Vec::new(),
+            requests: Vec::new(),
+            replies: Vec::new(),
+        }
+    }
+
+    /// Few cells, jobs that are open, and now and then any job, a wrong cell or a wrong byte.
+    fn make_request(&self, rule: &mut Rule) -> [u8; 8] {
+        const KINDS: [u8; 16] = [1, 1, 1, 2, 2, 2, 2, 2, 2, 3, 3, 3, 3, 4, 4, 5];
+        let any = rule.below(20);
+        let cell = if rule.below(40) == 0 {
+            250 + rule.below(20)
+        } else {
+            rule.below(24)
+        };
+        let job = if any == 0 || self.open.is_empty() {
+            self.first + rule.below(self.opened + 2)
+        } else {
+            self.open[rule.below(self.open.len() as u32) as usize]
+        };
+        let mut bytes = request::of(KINDS[rule.below(16) as usize], cell as u16, job);
+        if rule.below(100) == 0 {
+            let at = rule.below(2) as usize;
+            bytes[at] = rule.below(256) as u8;
+        }
+        bytes
+    }
+
+    /// What a grant means to the host: it must fit what the host has seen.
+    fn follow(&mut self, kind: u8, job: u32) {
+        if kind == 1 {
+            assert!(self.open.len() < SLOTS && job == self.first + self.opened);
+            self.open.push(job);
+            self.opened += 1;
+            return;
+        }
+        let at = self
+            .open
+            .iter()
+            .position(|&j| j == job)
+            .expect("a grant to a job that is not open");
+        if kind > 3 {
+            self.open.swap_remove(at);
+        }
+    }
+}
+
+/// The slow judge: the place of the first record that conflicts with an earlier one whose job the order puts later. Every pair is looked at.
+fn turned(log: &[u8], order: &[u32]) -> Option<usize> {
+    let steps: Vec<(usize, bool, u8, usize)> = log
+        .chunks(8)
+        .enumerate()
+        .filter(|(_, r)| r[0] == 2 || r[0] == 3)
+        .filter_map(|(at, r)| {
+            let job = u32::from_le_bytes(r[4..8].try_into().unwrap());
+            Some((at, r[0] == 3, r[2], order.iter().position(|&j| j == job)?))
+        })
+        .collect();
+    for (n, &(at, writes, cell, place)) in steps.iter().enumerate() {
+        if steps[..n]
+            .iter()
+            .any(|s| s.2 == cell && (s.1 || writes) && s.3 > place)
+        {
+            return Some(at);
+        }
+    }
+    None
+}
+
+/// Every 7 is right: the log so far has an order, and with that step it has none.
+fn seven_is_right(log: &mut Vec<u8>, request: [u8; 8]) {
+    let mut order = [0; LOG_JOBS];
+    assert!(list_order(log, &mut order).is_ok());
+    log.extend(request);
+    assert_eq!(list_order(log, &mut order), Err(NoList::NoOrder));
+    log.truncate(log.len() - 8);
+}
+
+#[test]
+fn many_requests() {
+    let mut codes = [0; 8];
+    for round in 1..=5 {
+        let mut rule = Rule(round);
+        let mut hosts = [Host::new(1), Host::new(4_000_000_000 + round)];
+        // two states in turn, step by step
+        for _ in 0..MANY {
+            for h in &mut hosts {
+                let request = h.make_request(&mut rule);
+                let reply = ask(&mut h.arbiter, &mut h.log, request);
+                let (code, job) = numbers(reply);
+                codes[code as usize] += 1;
+                h.requests.extend(request);
+                h.replies.extend(code.to_le_bytes());
+                h.replies.extend(job.to_le_bytes());
+                match reply {
+                    Ok(job) => h.follow(request[0], job.0),
+                    Err(Refusal::Circle) => seven_is_right(&mut h.log, request),
+                    Err(_) => (),
+                }
+            }
+        }
+        for h in &hosts {
+            // the same requests in one call
+            let mut answers = [200; 8 * MANY];
+            assert_eq!(replay(h.first, &h.requests, &mut answers), Ok(8 * MANY));
+            assert!(
+                answers[..] == h.replies[..],
+                "step by step and replay differ"
+            );
+
+            let mut order = [0; LOG_JOBS];
+            let kept = list_order(&h.log, &mut order).unwrap();
+            let order = &mut order[..kept];
+            assert_eq!(check_order(&h.log, order), Ok(kept));
+            assert_eq!(turned(&h.log, order), None);
+
+            // orders with two entries changed round, judged twice
+            let mut backward = 0;
+            for _ in 0..20 {
+                let (a, b) = (
+                    rule.below(kept as u32) as usize,
+                    rule.below(kept as u32) as usize,
+                );
+                order.swap(a, b);
+                let judged = turned(&h.log, order);
+                assert_eq!(
+                    check_order(&h.log, order),
+                    judged.map_or(Ok(kept), |at| Err(BadOrder::Backward(at)))
+                );
+                backward += judged.is_some() as u32;
+                order.swap(a, b);
+            }
+            assert!(backward > 0);
+        }
+    }
+    println!("replies by code: {codes:?}");
+    // the C program makes the same requests and expects the same; 6 is tried by hand
+    assert_eq!(codes, [14105, 223, 233, 861, 697, 658, 0, 3223]);
+}
