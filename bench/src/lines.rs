@@ -1,4 +1,5 @@
 //! The trial program in plain Rust: requests from standard input, the same lines on standard output. And the two programs timed on one input.
+//! And the program `byvalue` in plain Rust.
 use crate::bounded::Bounded;
 use crate::requests::Request;
 use crate::speed::{median, stream};
@@ -63,6 +64,22 @@ pub fn trial() -> bool {
         out.push(b'\n');
     }
     output.write_all(&out).is_err()
+}
+
+/// Reads to the end, and prints what `byvalue` prints: the requests, how many were granted, and the sum of the replies.
+pub fn sum() -> bool {
+    let mut input = std::io::BufReader::with_capacity(65536, std::io::stdin().lock());
+    let mut b = Bounded::new(1);
+    let mut q: Request = [0; 8];
+    let (mut requests, mut granted, mut sum) = (0u64, 0u64, 0u64);
+    while input.read_exact(&mut q).is_ok() {
+        let (code, job) = b.ask(q);
+        requests += 1;
+        granted += (code == 0) as u64;
+        sum = (sum * 31 + code as u64 * 7 + job as u64) % 4_294_967_291;
+    }
+    println!("{requests} requests, {granted} granted, {sum}");
+    false
 }
 
 fn run(program: &str, words: &[&str], path: &str, keep: bool) -> (f64, Vec<u8>) {

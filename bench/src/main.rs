@@ -22,6 +22,12 @@ fn main() {
         Some("tried") => tried::run(words.get(1).expect("the file of tried histories")),
         Some("figures") => figures::run(words.get(1).map_or(".", |w| w)),
         Some("trial") => lines::trial(),
+        Some("sum") => lines::sum(),
+        Some("stream") => speed::write_stream(
+            number(1, 8),
+            number(2, 100_000),
+            words.get(3).expect("a file to write"),
+        ),
         Some("speed") => speed::run(number(1, 1_000_000)),
         Some("count") => speed::count(
             words.get(1).map_or("ours", |w| w),
@@ -34,7 +40,7 @@ fn main() {
             number(3, 1),
         ),
         _ => {
-            eprintln!("bench differ [SEED [REQUESTS]] | verdicts [SEED [LOGS]] | tried FILE | figures FOLDER | speed [REQUESTS] | count ours|rust OPEN REQUESTS | orders SIDE KIND TIMES");
+            eprintln!("bench differ [SEED [REQUESTS]] | verdicts [SEED [LOGS]] | tried FILE | figures FOLDER | speed [REQUESTS] | count ours|rust OPEN REQUESTS | stream OPEN REQUESTS FILE | sum | orders SIDE KIND TIMES");
             true
         }
     };

@@ -104,6 +104,12 @@ pub fn count(side: &str, open: u64, requests: u64) -> bool {
     false
 }
 
+/// The stream that `count` runs, as a file, for a program that reads requests.
+pub fn write_stream(open: u64, requests: u64, path: &str) -> bool {
+    std::fs::write(path, stream(open, requests, 1)).unwrap();
+    false
+}
+
 /// One check or listing of a log of a kind, so many times, for an instruction counter.
 pub fn orders(side: &str, kind: &str, times: u64) -> bool {
     use crate::{judge, logs, ours};

@@ -1,23 +1,24 @@
 -- What the full history grants. A grant was tested (`granted-proper`); so every history of granted requests is in turn and has no circle
--- (`granted-sound`), and every number was issued once.
+-- (`granted-sound`), every number was issued once, and at most 32 jobs are open.
 -- Assumes nothing.
 use mathlib.Core.Path.{_≡_, refl, sym, ap, _∙_, subst}
 use mathlib.Core.Logic.{_⊎_, inl, inr, ⊎-elim}
 use mathlib.Core.Bool.{Bool, true, false, not, cond}
 use mathlib.Core.List.{List, [], _∷_, _++_, append-nil, List·Memᴰ·not-nil, List·Memᴰ·eq-of-singleton}
-use Prim.Native.Nat.{ℕ, suc, _+_, _≤_, _<_}
+use Prim.Native.Nat.{ℕ, suc, _+_, _≤_, _<_, zero-le}
+use native.Mathlib.Nat.{le-trans}
 use native.Mathlib.Omega.{arith}
 use lib.Dec.{T, leb, eqb}
 use lib.ListN.{length, length-append}
 use Rattle.graph.specs.Decide.{eq-test, le-test, answer, true-is}
-use Rattle.graph.specs.Lists.{_∈_, Before, before-nil, before-from-only}
+use Rattle.graph.specs.Lists.{_∈_, only-length, Before, before-nil, before-from-only, strike}
 use Rattle.graph.specs.Walk.{Via, one, step, Any, carry}
-use Rattle.history.specs.Events.{Event, opens, steps, ends, abandons, History, opened-by, opened, open-now, Step, all-steps, kept-steps, Precedes, Circular}
-use Rattle.history.specs.Replies.{cells, numbers, Request, Want, an-open, a-step, an-end, an-abandon, nothing, want, Facts, first-of, tests, code-of, event-of, granted-of, full, after, history-from, history-of}
+use Rattle.history.specs.Events.{Event, opens, steps, ends, abandons, History, opened-by, opened, kept, open-now, Step, all-steps, kept-steps, Precedes, Circular}
+use Rattle.history.specs.Replies.{cells, most-open, numbers, Request, Want, an-open, a-step, an-end, an-abandon, nothing, want, Facts, first-of, tests, code-of, event-of, granted-of, full, after, history-from, history-of}
 use Rattle.history.specs.Turns.{InTurn, Turns}
 use Rattle.history.specs.EventLaws.{precedes-in}
 use Rattle.history.specs.CircleLaws.{has-circle-test}
-use Rattle.history.specs.TurnLaws.{opened-grows, stays, which-in, has-test, kept-opens, kept-ends, kept-abandons, turns-next}
+use Rattle.history.specs.TurnLaws.{opened-grows, stays, which-in, has-test, open-opens, open-steps, open-ends, open-abandons, kept-opens, kept-ends, kept-abandons, orderly, turns-next}
 
 -- a bound that was tested and not reached
 pub below-bound : (n c : ℕ) → (T (leb n c) → ⊥) → c < n
@@ -26,7 +27,7 @@ below-bound n c h = ⊎-elim (λ le. absurd (h (le-test n c .shows le))) (λ no.
 -- ---- what a grant has been tested for
 
 abbrev pub Proper : Facts → Event → Type 0
-Proper f (opens n) = (n ≡ f .next) × (f .next < numbers)
+Proper f (opens n) = (n ≡ f .next) × (f .next < numbers) × (f .count < most-open)
 Proper f (steps k j c) = T (f .is-open j) × (c < cells) × (T (f .closes k j c) → ⊥)
 Proper f (ends j) = T (f .is-open j)
 Proper f (abandons j) = T (f .is-open j) × (T (f .has-written j) → ⊥)
@@ -44,7 +45,8 @@ module _ (f : Facts) where
   proper-of : (w : Want) (j c : ℕ) → first-of (tests f w j c) ≡ 0 → (e : Event) × (event-of (f .next) w j c ≡ e ∷ []) × Proper f e
   unfolding tests event-of
   proper-of an-open j c z =
-      (opens (f .next), refl, (refl, below-bound numbers (f .next) (passed (leb numbers (f .next)) 5 _ z .0)))
+      let p = passed (leb numbers (f .next)) 5 _ z in
+      (opens (f .next), refl, (refl, below-bound numbers (f .next) (p .0), below-bound most-open (f .count) (passed (leb most-open (f .count)) 4 0 (p .1) .0)))
   proper-of (a-step k) j c z =
       let p = passed (leb cells c) 1 _ z in
       let q = passed (not (f .is-open j)) 2 _ (p .1) in
@@ -101,6 +103,23 @@ range-next first h small e p j m = ⊎-elim (small j) (fresh e p) (which-in (ope
     fresh (ends i) p m = absurd (List·Memᴰ·not-nil m)
     fresh (abandons i) p m = absurd (List·Memᴰ·not-nil m)
 
+strike-length : (j : ℕ) (l : List ℕ) → length (strike j l) ≤ length l
+unfolding strike
+strike-length j l = only-length (λ i. not (eqb i j)) l
+
+-- an open adds one job where fewer than 32 are open; no other event adds any
+few-next : (first : ℕ) (h : History) → Turns h → Issued first h → length (open-now h) ≤ most-open → (e : Event) → Proper (full first h) e → length (open-now (h ++ e ∷ [])) ≤ most-open
+unfolding full
+few-next first h t issued few (opens n) p =
+    let o = orderly h t in
+    let fresh : n ∈ opened h → ⊥ = λ m. let q = issued n m in let r = p .0 in omega arith in
+    let more : length (open-now (h ++ opens n ∷ [])) ≡ length (open-now h) + 1 = ap length (open-opens h n (λ m. fresh (o .abandoned-opened n m)) (λ m. fresh (o .ended-opened n m))) ∙ length-append (open-now h) (n ∷ []) in
+    let room = p .2 in
+    omega arith
+few-next first h t issued few (steps k j c) p = subst (λ (l : List ℕ). length l ≤ most-open) (sym (open-steps h j k c)) few
+few-next first h t issued few (ends j) p = subst (λ (l : List ℕ). length l ≤ most-open) (sym (open-ends h j)) (le-trans (strike-length j (open-now h)) few)
+few-next first h t issued few (abandons j) p = subst (λ (l : List ℕ). length l ≤ most-open) (sym (open-abandons h j)) (le-trans (strike-length j (open-now h)) few)
+
 no-circle-next : (first : ℕ) (h : History) → (Circular (kept-steps h) → ⊥) → (e : Event) → Proper (full first h) e → Circular (kept-steps (h ++ e ∷ [])) → ⊥
 unfolding full
 no-circle-next first h none (opens n) p z = none (subst Circular (kept-opens h n) z)
@@ -110,17 +129,21 @@ no-circle-next first h none (abandons j) p z =
     let w = subst Circular (kept-abandons h j) z in
     none (w .0, carry (λ i x r. precedes-in r (before-from-only (λ a. not (eqb (a .job) j)) (kept-steps h) (r .in-order))) (λ x n. n) (w .1))
 
--- a history in turn whose numbers were issued one after the other, with no circle
+-- a history in turn whose numbers were issued one after the other, with at most 32 jobs open and no circle
 pub record Sound (first : ℕ) (h : History) : Type 0 where
   pub turns : Turns h
   pub issued : Issued first h
   pub in-range : (j : ℕ) → j ∈ opened h → j < numbers
+  pub few : length (open-now h) ≤ most-open
   pub no-circle : Circular (kept-steps h) → ⊥
 
 pub sound-start : (first : ℕ) → Sound first []
 unfolding opened
-sound-start first = record { turns = tt; issued = λ j m. absurd (List·Memᴰ·not-nil m); in-range = λ j m. absurd (List·Memᴰ·not-nil m); no-circle = λ z. nothing-precedes (z .1) }
+sound-start first = record { turns = tt; issued = λ j m. absurd (List·Memᴰ·not-nil m); in-range = λ j m. absurd (List·Memᴰ·not-nil m); few = none-open; no-circle = λ z. nothing-precedes (z .1) }
   where
+    none-open : length (open-now []) ≤ most-open
+    none-open = unfold open-now kept opened in zero-le
+
     empty : kept-steps [] ≡ []
     empty = unfold kept-steps all-steps in refl
 
@@ -137,6 +160,7 @@ sound-next {first} {h} e s p =
       turns = turns-next [] h e (s .turns) (proper-in-turn first h (s .issued) e p);
       issued = issued-next first h (s .issued) e p;
       in-range = range-next first h (s .in-range) e p;
+      few = few-next first h (s .turns) (s .issued) (s .few) e p;
       no-circle = no-circle-next first h (s .no-circle) e p;
     }
 

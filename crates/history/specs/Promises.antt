@@ -9,16 +9,17 @@ use mathlib.Core.Logic.{_↔_, ⊎-elim}
 use mathlib.Core.Bool.{Bool, not, cond}
 use mathlib.Core.Option.{Option, none, some}
 use mathlib.Core.List.{List, [], _∷_, _++_, append-nil}
-use Prim.Native.Nat.{ℕ, _<_}
-use lib.Dec.{T}
+use Prim.Native.Nat.{ℕ, _≤_, _<_}
+use lib.Dec.{T, eqb}
+use lib.ListN.{length}
 use native.Mathlib.Omega.{arith}
 use Rattle.graph.specs.Decide.{Decides, answer, test-true, test-false, eq-test, le-test}
 use Rattle.graph.specs.Lists.{_∈_}
 use Rattle.graph.specs.Listing.{Forward, LowestFirst}
 use Rattle.graph.specs.ListingLaws.{lowest-only, forced-only}
 use Rattle.history.specs.Events.{Kind, steps, History, has, open-now, kept, Step, all-steps, kept-steps, Precedes, Circular, has-circle}
-use Rattle.history.specs.Replies.{cells, Request, Reply, an-open, a-step, want, tests, code-of, event-of, reply-of, granted-of, full, reply, after, replies, history-of}
-use Rattle.history.specs.ReplyLaws.{reply-for, OpenReply, open-reply}
+use Rattle.history.specs.Replies.{cells, most-open, Request, Reply, an-open, a-step, an-end, want, tests, code-of, event-of, job-of, reply-of, granted-of, full, reply, after, replies, history-of}
+use Rattle.history.specs.ReplyLaws.{reply-for, OpenReply, open-reply, Alike, alike-reply, alike-granted}
 use Rattle.history.specs.Turns.{Turns}
 use Rattle.history.specs.Memory.{fresh, right, move-all, held-replies}
 use Rattle.history.specs.Tables.{Tells}
@@ -71,6 +72,20 @@ step-reply first h k r asks zero-byte is-open real =
 -- an open: 6 once the last number is issued, else 5 while 32 jobs are open, else granted with the next number
 pub open-answered : (first : ℕ) (h : History) (r : Request) → want (r .kind) ≡ an-open → r .byte1 ≡ 0 → OpenReply first h r
 open-answered = open-reply
+
+-- an end of an open job is never refused: code 0 and the job, whatever its cell field
+pub end-granted : (first : ℕ) (h : History) (r : Request) → want (r .kind) ≡ an-end → r .byte1 ≡ 0 → r .job ∈ open-now h → reply first h r ≡ record { code = 0; job = r .job }
+unfolding tests full job-of
+end-granted first h r asks zero-byte is-open =
+    let said : Bool → Reply = λ b. record { code = cond (not b) 3 0; job = cond (eqb (cond (not b) 3 0) 0) (r .job) 0 } in
+    let by-test : reply first h r ≡ said (has (open-now h) (r .job)) = reply-for first h r an-end asks zero-byte in
+    by-test ∙ ap said (test-true (has-test (open-now h) (r .job)) is-open)
+
+-- the job and the cell of an open, the cell of an end or an abandon are not looked at: requests that differ in nothing else (`Alike` of ReplyLaws) get the
+-- same reply and leave the same history
+pub fields-ignored : (first : ℕ) (h : History) (a b : Request) → Alike a b → (reply first h a ≡ reply first h b) × (after first h a ≡ after first h b)
+unfolding reply after
+fields-ignored first h a b s = (alike-reply (full first h) s, ap (λ (l : History). h ++ l) (alike-granted (full first h) s))
 
 -- a refusal changes nothing: the history stays
 pub refusal-stays : (first : ℕ) (h : History) (r : Request) → (reply first h r .code ≡ 0 → ⊥) → after first h r ≡ h
@@ -153,6 +168,10 @@ granted-order first rs =
     let s = granted-sound first rs in
     let r = order-exists (history-of first rs) (s .turns) (s .no-circle) in
     (r .0, r .1, order-accepted (history-of first rs) (s .turns) (r .1))
+
+-- and never more than 32 jobs are open
+pub never-over : (first : ℕ) (rs : List Request) → length (open-now (history-of first rs)) ≤ most-open
+never-over first rs = granted-sound first rs .few
 
 -- ---- the table of cases
 

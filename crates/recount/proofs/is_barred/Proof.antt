@@ -1,0 +1,51 @@
+-- `recount::is_barred` is safe and ends.
+-- Assumes nothing.
+use Prim.Native.Nat.{_-_}
+use borrow.Author.Needs.{needs}
+use Rattle.recount.proofs.is_barred.Statement.{statement}
+use Rattle.recount.proofs.is_barred.Tie as tie
+
+abbrev Inv-loop : tie.InvT-loop
+Inv-loop h n job i₀ i = Unit {0}
+
+abbrev μ-loop : tie.MeasureT-loop
+μ-loop h n job i₀ i = n - i
+
+loop-holds : tie.Need-loop-holds Inv-loop μ-loop
+loop-holds c = search needs
+
+at-requires : tie.Need-at-requires Inv-loop μ-loop
+at-requires c κs = search needs
+
+bars-requires : tie.Need-bars-requires Inv-loop μ-loop
+bars-requires c κs = search needs
+
+returns : tie.Need-returns Inv-loop μ-loop
+returns c = search needs
+
+add-i : tie.Need-add-i Inv-loop μ-loop
+add-i c = search needs
+
+loop-less : tie.Need-loop-less Inv-loop μ-loop
+loop-less c = search needs
+
+loop-again : tie.Need-loop-again Inv-loop μ-loop
+loop-again c = search needs
+
+returns-2 : tie.Need-returns-2 Inv-loop μ-loop
+returns-2 c = search needs
+
+pub is-barred-spec : {M : Type 1} → statement M
+is-barred-spec =
+    tie.close
+    (tie.spec
+    Inv-loop
+    μ-loop
+    loop-holds
+    at-requires
+    bars-requires
+    returns
+    add-i
+    loop-less
+    loop-again
+    returns-2)

@@ -1,0 +1,59 @@
+-- `recount::meets` is safe and ends.
+-- Assumes nothing.
+use Prim.Native.Nat.{_-_}
+use borrow.Author.Needs.{needs}
+use Rattle.recount.proofs.meets.Statement.{statement}
+use Rattle.recount.proofs.meets.Tie as tie
+
+abbrev Inv-loop : tie.InvT-loop
+Inv-loop h marks b low high later a₀ a = Unit {0}
+
+abbrev μ-loop : tie.MeasureT-loop
+μ-loop h marks b low high later a₀ a = b - a
+
+at-requires : tie.Need-at-requires Inv-loop μ-loop
+at-requires c κs = search needs
+
+loop-holds : tie.Need-loop-holds Inv-loop μ-loop
+loop-holds c = search needs
+
+at-requires-2 : tie.Need-at-requires-2 Inv-loop μ-loop
+at-requires-2 c κs = search needs
+
+at-requires-3 : tie.Need-at-requires-3 Inv-loop μ-loop
+at-requires-3 c κs = search needs
+
+clash-requires : tie.Need-clash-requires Inv-loop μ-loop
+clash-requires c κs = search needs
+
+returns : tie.Need-returns Inv-loop μ-loop
+returns c = search needs
+
+add-a : tie.Need-add-a Inv-loop μ-loop
+add-a c = search needs
+
+loop-less : tie.Need-loop-less Inv-loop μ-loop
+loop-less c = search needs
+
+loop-again : tie.Need-loop-again Inv-loop μ-loop
+loop-again c = search needs
+
+returns-2 : tie.Need-returns-2 Inv-loop μ-loop
+returns-2 c = search needs
+
+pub meets-spec : {M : Type 1} → statement M
+meets-spec =
+    tie.close
+    (tie.spec
+    Inv-loop
+    μ-loop
+    at-requires
+    loop-holds
+    at-requires-2
+    at-requires-3
+    clash-requires
+    returns
+    add-a
+    loop-less
+    loop-again
+    returns-2)
