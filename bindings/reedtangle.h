@@ -1,7 +1,7 @@
 /*
  * Reedtangle for C and C++: an arbiter for overlapping jobs over 256 shared cells, a checker of orders and a lister of orders.
  *
- * The five functions are in two archives, made by `rt staticlib arbiter` and `rt staticlib orders` (x86-64 Linux):
+ * The six functions are in two archives, made by `rt staticlib arbiter` and `rt staticlib orders` (x86-64 Linux):
  *
  *     cc -std=c11 -I bindings host.c target/staticlib/libarbiter.a target/staticlib/liborders.a -o host
  *
@@ -9,23 +9,24 @@
  * was abandoned. An order of the kept jobs would do when any two conflicting steps come in it as they came in the log. So the words are used
  * below; there may be an order with the same reads and ends that turns a conflicting pair round, and it is not looked for.
  *
- * What holds for all five:
+ * What holds for all six:
  *
  * - They are total. Whatever the lent memory holds, the call comes to its end, with exactly one answer. They never stop the program.
  * - They keep nothing between calls: no globals, no allocation, no files. All that lasts is in memory that the caller lends.
  * - A refusal (any code but 0) changes nothing: the state, the list and the bytes that were lent stay as they were. One number is set all
- *   the same, `*written` of reedtangle_replay: to 0.
+ *   the same, `*written` of reedtangle_replay and its sister: to 0.
  *
  * What is asked of the caller, as of any C function; a call that breaks this has no promise:
  *
  * - No pointer is NULL, not even with a length of 0. Each is aligned for its type, and all the memory that its length says is there to use.
  * - What is lent to one call does not overlap. Only memory that is read alone (const) may overlap other such memory.
  * - Nobody else writes lent memory during the call. Two threads may each use a state of their own, or take turns at one.
- * - Room on the stack: reedtangle_list_order takes about 104,000 bytes of it, reedtangle_check_order 28,000, the others less than 6,000.
+ * - Room on the stack: reedtangle_list_order takes about 104,000 bytes of it, reedtangle_check_order 28,000, reedtangle_replay_by_value 18,000, the others less than
+ *   6,000.
  *
  * Not promised: that a job gets through. One that is refused may be refused for ever.
  *
- * The five functions are proved (docs/PROMISES.md says what and where). The wrappers further down are plain C and are not; bindings/c/night.c
+ * The six functions are proved (docs/PROMISES.md says what and where). The wrappers further down are plain C and are not; bindings/c/night.c
  * tries them.
  */
 #ifndef REEDTANGLE_H
@@ -113,7 +114,7 @@ enum {
     REEDTANGLE_NO_ROOM = 24         /* the answers do not fit */
 };
 
-/* ---- the five functions */
+/* ---- the six functions */
 
 /*
  * A fresh state, with no job open, in memory that the host keeps: `next` and `free` are one number each, `numbers` and `leads` 32 each,
@@ -142,6 +143,9 @@ uint64_t reedtangle_step(uint64_t *next, uint32_t *free, uint32_t *numbers, uint
  * The answers are those of the whole history, and so those of reedtangle_step one by one.
  */
 uint32_t reedtangle_replay(uint32_t first, const uint8_t *requests, size_t length, uint8_t *answers, size_t room, uint64_t *written);
+
+/* The same with the state handed on by value from step to step: for measuring what that costs. */
+uint32_t reedtangle_replay_by_value(uint32_t first, const uint8_t *requests, size_t length, uint8_t *answers, size_t room, uint64_t *written);
 
 /*
  * Would this order do for the log? In: `length` bytes of log, and `entries` job numbers, any of both. Comes back: code times 2^32 plus place.

@@ -1,9 +1,10 @@
 //! Random requests: the proved arbiter, step by step and by replay, against an arbiter that keeps the whole history (in windows that it can afford) and a
 //! bounded one; and made-up states, lent to the step, against the bounded one's reading of the same rule. Counts of each code, so that nothing is vacuous.
 use crate::bounded::Bounded;
-use crate::ours::{replay, Ours};
+use crate::ours::{replay, replay_by_value, Ours};
 use crate::requests::*;
 use crate::whole::Whole;
+use reedtangle::State;
 
 /// A whole history is compared for so many requests, from a fresh state.
 const WINDOW: u64 = 300;
@@ -16,7 +17,8 @@ struct Tally {
     differ: u64,
 }
 
-fn same_state(o: &Ours, b: &Bounded) -> bool {
+pub fn same_state(o: &Ours, b: &Bounded) -> bool {
+    let o = o.state();
     o.next == b.next
         && o.free == b.free
         && o.numbers == b.numbers
@@ -56,16 +58,19 @@ fn windows(shape: Shape, seed: u64, requests: u64) -> Tally {
     t
 }
 
-/// `replay` writes what was said, with room to spare and with a tail of bytes that are no record, and nothing where the room is one byte short.
+/// `replay` writes what was said, with room to spare and with a tail of bytes that are no record, and nothing where the room is one byte short; and so does
+/// the same with the state handed on by value.
 fn replayed(first: u32, sent: &[u8], said: &[u8]) -> bool {
     let mut with_tail = sent.to_vec();
     with_tail.extend_from_slice(&[1, 0, 0]);
-    let mut out = vec![0xaa; said.len() + 5];
-    let done = replay(first, &with_tail, &mut out) == (0, said.len() as u64)
-        && out[..said.len()] == *said
-        && out[said.len()..].iter().all(|&x| x == 0xaa);
-    let mut short = vec![0xaa; said.len() - 1];
-    done && replay(first, &with_tail, &mut short) == (24, 0) && short.iter().all(|&x| x == 0xaa)
+    [replay, replay_by_value].iter().all(|by| {
+        let mut out = vec![0xaa; said.len() + 5];
+        let done = by(first, &with_tail, &mut out) == (0, said.len())
+            && out[..said.len()] == *said
+            && out[said.len()..].iter().all(|&x| x == 0xaa);
+        let mut short = vec![0xaa; said.len() - 1];
+        done && by(first, &with_tail, &mut short) == (24, 0) && short.iter().all(|&x| x == 0xaa)
+    })
 }
 
 /// Long streams against the bounded arbiter.
@@ -141,13 +146,13 @@ fn made_up(seed: u64, states: u64) -> Tally {
         };
         let kind = 1 + r.below(5) as u8;
         let mut b = Bounded::of(next, free, numbers, leads, &sets);
-        let mut o = Ours {
+        let mut o = Ours::of(State {
             next,
             free,
             numbers,
             leads,
             sets: *sets,
-        };
+        });
         let open: Vec<usize> = (0..32).filter(|i| free >> i & 1 == 0).collect();
         let job = if open.is_empty() || r.one_in(10) {
             r.below(few) as u32

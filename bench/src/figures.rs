@@ -1,21 +1,24 @@
 //! The figures: a table of costs, a picture of cost against the length of the history, and the deepest stack.
-use crate::judge;
+use crate::judge::{self, Verdict};
+use crate::judge_fast;
 use crate::logs;
 use crate::ours::{self, Ours};
 use crate::requests::*;
-use crate::speed::{by_replay, by_rust, by_step, median, stream, timed};
+use crate::speed::{
+    by_replay, by_rust, by_step, by_value, log_of, median, nanos, stream, timed, LOGS,
+};
 use crate::whole::Whole;
 use std::fmt::Write;
-use std::time::Instant;
 
 /// Nanoseconds a request of the arbiter that keeps the whole history, at so many requests.
 fn by_whole(bytes: &[u8]) -> f64 {
     let mut w = Whole::new(1);
-    let start = Instant::now();
-    for q in bytes.chunks_exact(8) {
-        std::hint::black_box(w.ask(q.try_into().unwrap()));
-    }
-    start.elapsed().as_nanos() as f64 / (bytes.len() / 8) as f64
+    let time = nanos(|| {
+        for q in bytes.chunks_exact(8) {
+            std::hint::black_box(w.ask(q.try_into().unwrap()));
+        }
+    });
+    time / (bytes.len() / 8) as f64
 }
 
 struct Point {
@@ -29,9 +32,9 @@ fn row(open: u64, requests: u64, text: &mut String) -> f64 {
     // short histories are many, each from its own seed: one that is run again and again is learnt by the processor
     let turns = if requests > 1_000_000 { 5 } else { 15 };
     let several = if requests < 100_000 { 40 } else { 1 };
-    let (mut x, mut y, mut z) = (vec![], vec![], vec![]);
+    let (mut x, mut v, mut y, mut z) = (vec![], vec![], vec![], vec![]);
     for turn in 0..turns {
-        let (mut a, mut b, mut c) = (0.0, 0.0, 0.0);
+        let (mut a, mut w, mut b, mut c) = (0.0, 0.0, 0.0, 0.0);
         for k in 0..several {
             let seed = if several == 1 {
                 1
@@ -41,65 +44,68 @@ fn row(open: u64, requests: u64, text: &mut String) -> f64 {
             let bytes = stream(open, requests, seed);
             let mut out = vec![0u8; bytes.len()];
             a += timed(by_replay, &bytes, &mut out);
+            w += timed(by_value, &bytes, &mut out);
             b += timed(by_step, &bytes, &mut out);
             c += timed(by_rust, &bytes, &mut out);
         }
         x.push(a / several as f64);
+        v.push(w / several as f64);
         y.push(b / several as f64);
         z.push(c / several as f64);
     }
-    let (x, y, z) = (median(x), median(y), median(z));
+    let (x, v, y, z) = (median(x), median(v), median(y), median(z));
     writeln!(
         text,
-        "| {open} | {requests} | {x:.1} | {y:.1} | {z:.1} | {:.2} |",
-        x / z
+        "| {open} | {requests} | {x:.1} | {y:.1} | {v:.1} | {z:.1} | {:.2} | {:.2} |",
+        x / z,
+        v / z
     )
     .unwrap();
     x
 }
 
+/// Microseconds of a call, over a few in a row.
+fn micros(call: &mut dyn FnMut() -> u32) -> f64 {
+    const CALLS: u32 = 8;
+    let mut codes = 0;
+    let time = nanos(|| codes = (0..CALLS).map(|_| call()).sum());
+    assert_eq!(codes, 0);
+    time / 1000.0 / CALLS as f64
+}
+
+type Checks = fn(&[u8], &[u32]) -> Verdict;
+type Lists = fn(&[u8], &mut [u32]) -> Verdict;
+
+/// One row: a kind of log, and the partner.
+fn order_row(text: &mut String, kind: &str, name: &str, check: Checks, list: Lists) {
+    let log = log_of(kind);
+    let order = judge::list(&log, 512).1;
+    let mut lent = vec![0u32; 512];
+    let (mut a, mut b, mut c, mut d) = (vec![], vec![], vec![], vec![]);
+    for _ in 0..301 {
+        a.push(micros(&mut || ours::check(&log, &order).code));
+        b.push(micros(&mut || check(&log, &order).code));
+        c.push(micros(&mut || ours::list(&log, &mut lent).code));
+        d.push(micros(&mut || list(&log, &mut lent).code));
+    }
+    let (a, b, c, d) = (median(a), median(b), median(c), median(d));
+    writeln!(
+        text,
+        "| {name} | {a:.1} | {b:.1} | {:.2} | {c:.1} | {d:.1} | {:.2} |",
+        a / b,
+        c / d
+    )
+    .unwrap();
+}
+
 fn orders(text: &mut String) {
-    let mut r = Random::new(5);
-    for (name, log) in [
-        (
-            "4096 records, 512 jobs, 256 cells",
-            logs::granted(&mut r, 4096, 512, 32, 256, false),
-        ),
-        (
-            "4096 records, 512 jobs, 12 cells",
-            logs::granted(&mut r, 4096, 512, 32, 12, false),
-        ),
-        (
-            "the same with gaps between numbers",
-            logs::granted(&mut r, 4096, 512, 32, 256, true),
-        ),
-        ("512 jobs, the only order reversed", logs::reversed(512)),
-    ] {
-        let order = judge::list(&log, 512).1;
-        let mut lent = vec![0u32; 512];
-        let (mut a, mut b, mut c, mut d) = (vec![], vec![], vec![], vec![]);
-        for _ in 0..101 {
-            let t = Instant::now();
-            assert_eq!(ours::check(&log, &order).code, 0);
-            a.push(t.elapsed().as_nanos() as f64 / 1000.0);
-            let t = Instant::now();
-            assert_eq!(judge::check(&log, &order).code, 0);
-            b.push(t.elapsed().as_nanos() as f64 / 1000.0);
-            let t = Instant::now();
-            assert_eq!(ours::list(&log, &mut lent).code, 0);
-            c.push(t.elapsed().as_nanos() as f64 / 1000.0);
-            let t = Instant::now();
-            assert_eq!(judge::list(&log, 512).0.code, 0);
-            d.push(t.elapsed().as_nanos() as f64 / 1000.0);
+    for (kind, name) in LOGS {
+        order_row(text, kind, name, judge_fast::check, judge_fast::list);
+        if kind == "gaps" {
+            let name = "the same, the partner with no hash";
+            let (check, list) = (judge_fast::check_halving, judge_fast::list_halving);
+            order_row(text, kind, name, check, list);
         }
-        let (a, b, c, d) = (median(a), median(b), median(c), median(d));
-        writeln!(
-            text,
-            "| {name} | {a:.0} | {b:.0} | {:.2} | {c:.0} | {d:.0} | {:.2} |",
-            a / b,
-            c / d
-        )
-        .unwrap();
     }
 }
 
@@ -146,6 +152,7 @@ fn stack(text: &mut String) {
                 }));
             }
             let replay = depth(&mut || by_replay(&bytes, &mut out));
+            let value = depth(&mut || by_value(&bytes, &mut out));
             let mut r = Random::new(5);
             let log = logs::granted(&mut r, 4096, 512, 32, 12, false);
             let order = judge::list(&log, 512).1;
@@ -159,6 +166,7 @@ fn stack(text: &mut String) {
             [
                 ("reedtangle_step", step),
                 ("reedtangle_replay", replay),
+                ("reedtangle_replay_by_value", value),
                 ("reedtangle_check_order", check),
                 ("reedtangle_list_order", list),
             ]
@@ -234,19 +242,32 @@ fn picture(points: &[Point]) -> String {
     s
 }
 
+/// The trial program against one in Rust. True where their lines differ.
+fn trial(text: &mut String, program: &str) -> bool {
+    if !std::path::Path::new(program).exists() {
+        text.push_str(
+            "\nThe trial program is not built (`rt check trial`), so its table is left out.\n",
+        );
+        return false;
+    }
+    text.push_str("\nThe trial program and a Rust program of the same input and output, whole processes by the clock, output to nowhere; their output was compared first:\n\n| jobs open | requests | trial, ns a request | Rust, ns a request | to Rust |\n|---|---|---|---|---|\n");
+    crate::lines::table(text, program, "target/requests")
+}
+
 pub fn run(folder: &str) -> bool {
-    let mut text = String::new();
-    text.push_str("| jobs open | requests | replay, ns | exported step, ns | Rust, ns | replay to Rust |\n|---|---|---|---|---|---|\n");
+    let mut text = String::from("Nanoseconds of processor time a request, medians of turns taken alternately. Histories of 10,000 requests are 40 different ones a turn.\n\n");
+    text.push_str("| jobs open | requests | replay, ns | exported step, ns | step by value, ns | Rust, ns | replay to Rust | by value to Rust |\n|---|---|---|---|---|---|---|---|\n");
     for open in [8, 32] {
         for requests in [10_000, 1_000_000, 10_000_000] {
             row(open, requests, &mut text);
         }
     }
-    text.push_str("\n| log | check, µs | Rust, µs | to Rust | list, µs | Rust, µs | to Rust |\n|---|---|---|---|---|---|---|\n");
+    text.push_str("\nMicroseconds of processor time a log, medians of 301 turns taken alternately, eight calls a turn:\n\n| log | check, µs | Rust, µs | to Rust | list, µs | Rust, µs | to Rust |\n|---|---|---|---|---|---|---|\n");
     orders(&mut text);
-    text.push_str("\n| jobs open | requests | trial, ns a request | Rust, ns a request | to Rust |\n|---|---|---|---|---|\n");
-    let differ = crate::lines::table(&mut text, "../target/bin/trial", "target/requests");
-    text.push_str("\n| function | deepest stack, bytes |\n|---|---|\n");
+    let differ = trial(&mut text, "../target/bin/trial");
+    text.push_str(
+        "\nThe deepest stack, by painting it:\n\n| function | deepest stack, bytes |\n|---|---|\n",
+    );
     stack(&mut text);
     let mut points = vec![];
     for requests in [
@@ -271,9 +292,7 @@ pub fn run(folder: &str) -> bool {
             whole,
         });
     }
-    text.push_str(
-        "\n| requests | replay, ns a request | whole history, ns a request |\n|---|---|---|\n",
-    );
+    text.push_str("\nCost against the length of the history, 8 jobs open:\n\n| requests | replay, ns a request | whole history, ns a request |\n|---|---|---|\n");
     for p in &points {
         let whole = p.whole.map_or("-".to_string(), |v| format!("{v:.0}"));
         writeln!(text, "| {} | {:.1} | {whole} |", p.requests, p.ours).unwrap();

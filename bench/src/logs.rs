@@ -64,6 +64,27 @@ pub fn granted(
     log
 }
 
+/// The same log with other numbers, in the same order: as many as there are jobs, made from their places.
+pub fn renumber(log: &mut [u8], mut number: impl FnMut(u32) -> u32) {
+    let told: Vec<u32> = log
+        .chunks_exact(8)
+        .map(|x| u32::from_le_bytes(x[4..].try_into().unwrap()))
+        .collect();
+    let mut before = told.clone();
+    before.sort_unstable();
+    before.dedup();
+    let mut after = std::collections::BTreeSet::new();
+    let mut i = 0;
+    while after.len() < before.len() {
+        after.insert(number(i));
+        i += 1;
+    }
+    let after: Vec<u32> = after.into_iter().collect();
+    for (rec, job) in log.chunks_exact_mut(8).zip(told) {
+        rec[4..].copy_from_slice(&after[before.binary_search(&job).unwrap()].to_le_bytes());
+    }
+}
+
 /// Every job writes one cell that the job above it wrote before: the only order is the reverse of the numbers.
 pub fn reversed(jobs: u32) -> Vec<u8> {
     let mut log = vec![];

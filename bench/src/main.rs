@@ -2,15 +2,32 @@
 mod bounded;
 mod differ;
 mod figures;
+mod flat;
 mod judge;
+mod judge_fast;
 mod lines;
 mod logs;
 mod ours;
+mod programs;
 mod requests;
 mod speed;
 mod tried;
 mod verdicts;
 mod whole;
+
+const USE: &str = "bench differ [SEED [REQUESTS]]            the arbiter against two others
+bench verdicts [SEED [LOGS]]              the checker and the lister against two others
+bench tried FILE                          what the tried histories expect
+bench programs [FOLDER [SEED [LOGS]]]     the built programs on made files
+bench figures FOLDER                      tables of times, the stack, a picture
+bench flat [RUNS [STRETCHES]]             cost early and late in one history
+bench speed [REQUESTS]                    nanoseconds a request
+for an instruction counter:
+bench count none|ours|step|value|rust OPEN REQUESTS
+bench orders none|(ours|rust|halving|plain)-(check|list) sparse|dense|gaps|reversed TIMES
+bench flat-make OPEN AGE REQUESTS FILE, then bench flat-count none|ours FILE
+programs that read requests:
+bench stream OPEN REQUESTS FILE, then bench trial < FILE, bench sum < FILE";
 
 fn main() {
     let words: Vec<String> = std::env::args().skip(1).collect();
@@ -20,7 +37,23 @@ fn main() {
         Some("differ") => differ::run(number(1, 1), number(2, 10_000_000)),
         Some("verdicts") => verdicts::run(number(1, 1), number(2, 1_000_000)),
         Some("tried") => tried::run(words.get(1).expect("the file of tried histories")),
+        Some("programs") => programs::run(
+            words.get(1).map_or("../target/bin", |w| w),
+            number(2, 1),
+            number(3, 400) as u32,
+        ),
         Some("figures") => figures::run(words.get(1).map_or(".", |w| w)),
+        Some("flat") => flat::run(number(1, 15), number(2, 20)),
+        Some("flat-make") => flat::make(
+            number(1, 8),
+            number(2, 10_000),
+            number(3, 100_000),
+            words.get(4).expect("a file to write"),
+        ),
+        Some("flat-count") => flat::count(
+            words.get(1).map_or("", |w| w),
+            words.get(2).expect("a file of flat-make"),
+        ),
         Some("trial") => lines::trial(),
         Some("sum") => lines::sum(),
         Some("stream") => speed::write_stream(
@@ -40,7 +73,7 @@ fn main() {
             number(3, 1),
         ),
         _ => {
-            eprintln!("bench differ [SEED [REQUESTS]] | verdicts [SEED [LOGS]] | tried FILE | figures FOLDER | speed [REQUESTS] | count ours|rust OPEN REQUESTS | stream OPEN REQUESTS FILE | sum | orders SIDE KIND TIMES");
+            eprintln!("{USE}");
             true
         }
     };

@@ -1,119 +1,78 @@
-//! The proved arbiter, as a host links it. A lent slice is a pointer and a length.
+//! The proved arbiter, checker and lister, by the bindings for Rust, with each answer as document 01's numbers.
 use crate::judge::Verdict;
 use crate::requests::Request;
-
-extern "C" {
-    fn reedtangle_replay(
-        first: u32,
-        requests: *const u8,
-        length: usize,
-        answers: *mut u8,
-        room: usize,
-        written: *mut u64,
-    ) -> u32;
-    fn reedtangle_step(
-        next: *mut u64,
-        free: *mut u32,
-        numbers: *mut [u32; 32],
-        leads: *mut [u32; 32],
-        sets: *mut [u64; 512],
-        request: *const Request,
-    ) -> u64;
-    fn reedtangle_check_order(
-        log: *const u8,
-        length: usize,
-        order: *const u32,
-        entries: usize,
-    ) -> u64;
-    fn reedtangle_list_order(log: *const u8, length: usize, out: *mut u32, room: usize) -> u64;
-    fn reedtangle_fresh(
-        first: u32,
-        next: *mut u64,
-        free: *mut u32,
-        numbers: *mut [u32; 32],
-        leads: *mut [u32; 32],
-        sets: *mut [u64; 512],
-    );
-}
+use reedtangle::{Arbiter, State};
 
 #[derive(Clone)]
-pub struct Ours {
-    pub next: u64,
-    pub free: u32,
-    pub numbers: [u32; 32],
-    pub leads: [u32; 32],
-    pub sets: [u64; 512],
-}
+pub struct Ours(Arbiter);
 
 impl Ours {
     pub fn new(first: u32) -> Ours {
-        // not zero, so that what `reedtangle_fresh` leaves is its own doing
-        let mut o = Ours {
+        // not zero, so that what is fresh then is the proved code's own doing
+        let mut o = Ours::of(State {
             next: 9,
             free: 9,
             numbers: [9; 32],
             leads: [9; 32],
             sets: [9; 512],
-        };
-        unsafe {
-            reedtangle_fresh(
-                first,
-                &mut o.next,
-                &mut o.free,
-                &mut o.numbers,
-                &mut o.leads,
-                &mut o.sets,
-            )
-        };
+        });
+        o.0.restart(first);
         o
+    }
+
+    /// Any state, whether requests give it or not.
+    pub fn of(state: State) -> Ours {
+        Ours(Arbiter::from_state(state))
+    }
+
+    pub fn state(&self) -> &State {
+        self.0.state()
     }
 
     #[inline]
     pub fn ask(&mut self, r: Request) -> (u32, u32) {
-        let x = unsafe {
-            reedtangle_step(
-                &mut self.next,
-                &mut self.free,
-                &mut self.numbers,
-                &mut self.leads,
-                &mut self.sets,
-                &r,
-            )
-        };
-        ((x >> 32) as u32, x as u32)
+        self.0.answer(r)
     }
 }
 
 /// Code and bytes written.
-pub fn replay(first: u32, requests: &[u8], answers: &mut [u8]) -> (u32, u64) {
-    let mut written = 0u64;
-    let code = unsafe {
-        reedtangle_replay(
-            first,
-            requests.as_ptr(),
-            requests.len(),
-            answers.as_mut_ptr(),
-            answers.len(),
-            &mut written,
-        )
-    };
-    (code, written)
+#[inline]
+pub fn replay(first: u32, requests: &[u8], answers: &mut [u8]) -> (u32, usize) {
+    match reedtangle::replay(first, requests, answers) {
+        Ok(written) => (0, written),
+        Err(refusal) => (refusal.code(), 0),
+    }
+}
+
+/// The same with the state handed on by value.
+#[inline]
+pub fn replay_by_value(first: u32, requests: &[u8], answers: &mut [u8]) -> (u32, usize) {
+    match reedtangle::replay_by_value(first, requests, answers) {
+        Ok(written) => (0, written),
+        Err(refusal) => (refusal.code(), 0),
+    }
 }
 
 /// Code and place.
+#[inline]
 pub fn check(log: &[u8], order: &[u32]) -> Verdict {
-    let x = unsafe { reedtangle_check_order(log.as_ptr(), log.len(), order.as_ptr(), order.len()) };
-    Verdict {
-        code: (x >> 32) as u32,
-        place: x as u32 as usize,
+    match reedtangle::check_order(log, order) {
+        Ok(place) => Verdict { code: 0, place },
+        Err(e) => Verdict {
+            code: e.code(),
+            place: e.place(),
+        },
     }
 }
 
 /// Code and place; the order in `out`.
+#[inline]
 pub fn list(log: &[u8], out: &mut [u32]) -> Verdict {
-    let x = unsafe { reedtangle_list_order(log.as_ptr(), log.len(), out.as_mut_ptr(), out.len()) };
-    Verdict {
-        code: (x >> 32) as u32,
-        place: x as u32 as usize,
+    match reedtangle::list_order(log, out) {
+        Ok(place) => Verdict { code: 0, place },
+        Err(e) => Verdict {
+            code: e.code(),
+            place: e.place(),
+        },
     }
 }

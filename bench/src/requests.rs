@@ -23,6 +23,7 @@ pub fn job_of(r: Request) -> u32 {
 }
 
 /// xorshift: the same numbers from the same seed everywhere.
+#[derive(Clone)]
 pub struct Random(u64);
 
 impl Random {

@@ -1,5 +1,7 @@
-//! Random logs, orders and damaged logs: the proved checker and lister against those of `judge`. Counts of each code, so that nothing is vacuous.
-use crate::judge;
+//! Random logs, orders and damaged logs: the proved checker and lister, and the fast ones of `judge_fast`, against those of `judge`. Counts of each code, so
+//! that nothing is vacuous.
+use crate::judge::{self, Verdict};
+use crate::judge_fast;
 use crate::logs;
 use crate::ours;
 use crate::requests::*;
@@ -20,7 +22,7 @@ impl Tally {
 }
 
 /// A log: what an arbiter granted, or records put together from a few jobs with no arbiter at all, so that circles come up too.
-fn log(r: &mut Random) -> Vec<u8> {
+pub fn log(r: &mut Random) -> Vec<u8> {
     let size = match r.below(200) {
         0 => 4096,
         1..=19 => 300,
@@ -28,15 +30,32 @@ fn log(r: &mut Random) -> Vec<u8> {
     };
     let jobs = 1 + r.below((size / 4) as u64).min(511) as usize;
     let cells = [1, 3, 12, 256][r.below(4) as usize];
-    if r.one_in(2) {
+    let mut log = if r.one_in(400) {
+        logs::reversed(512)
+    } else if r.one_in(2) {
         let open = 2 + r.below(31) as usize;
-        return logs::granted(r, size, jobs, open, cells, false);
+        logs::granted(r, size, jobs, open, cells, false)
+    } else {
+        logs::loose(r, size, jobs, cells)
+    };
+    match r.below(8) {
+        0 => logs::renumber(&mut log, |_| r.next() as u32),
+        // numbers that meet in the table of `judge_fast`
+        1 => {
+            let meet = r.below(2048) as u32;
+            let few = 1 + r.below(3) as u32;
+            logs::renumber(&mut log, |_| {
+                judge_fast::met(meet + r.below(few as u64) as u32, r.next() as u32)
+            })
+        }
+        2 => logs::renumber(&mut log, |i| u32::MAX - i),
+        _ => {}
     }
-    logs::loose(r, size, jobs, cells)
+    log
 }
 
 /// Something is wrong with it: a byte, a record, the length.
-fn damage(r: &mut Random, log: &mut Vec<u8>) {
+pub fn damage(r: &mut Random, log: &mut Vec<u8>) {
     match r.below(6) {
         0 => {
             let cut = r.below(log.len() as u64 + 1) as usize;
@@ -64,7 +83,7 @@ fn damage(r: &mut Random, log: &mut Vec<u8>) {
 }
 
 /// An order to propose: the right one, or one that is not, or not quite.
-fn order(r: &mut Random, log: &[u8], right: &[u32]) -> Vec<u32> {
+pub fn order(r: &mut Random, log: &[u8], right: &[u32]) -> Vec<u32> {
     let mut o = if right.is_empty() || r.one_in(4) {
         log.chunks_exact(8)
             .filter(|x| x[0] == OPEN)
@@ -94,15 +113,88 @@ fn order(r: &mut Random, log: &[u8], right: &[u32]) -> Vec<u32> {
             o.remove(r.below(n) as usize);
         }
         5 => o.push(o[r.below(n) as usize]),
+        6 if r.one_in(8) => {
+            for _ in 0..r.below(1200) {
+                o.push(r.next() as u32 >> r.below(32));
+            }
+        }
         _ => {}
     }
     o
 }
 
+/// What a side answers, on any log and order or list.
+struct Side {
+    name: &'static str,
+    check: fn(&[u8], &[u32]) -> Verdict,
+    list: fn(&[u8], &mut [u32]) -> Verdict,
+    checks: Tally,
+    lists: Tally,
+}
+
+fn side(
+    name: &'static str,
+    check: fn(&[u8], &[u32]) -> Verdict,
+    list: fn(&[u8], &mut [u32]) -> Verdict,
+) -> Side {
+    Side {
+        name,
+        check,
+        list,
+        checks: Tally::default(),
+        lists: Tally::default(),
+    }
+}
+
+impl Side {
+    /// Into a list of so many entries, each of which had something in it.
+    fn lists(&mut self, log: &[u8], room: usize) {
+        let before: Vec<u32> = (0..room).map(|i| !(i as u32)).collect();
+        let mut lent = before.clone();
+        let listed = (self.list)(log, &mut lent);
+        let (expected, given) = judge::list(log, room);
+        let mut after = before;
+        after[..given.len()].copy_from_slice(&given);
+        self.lists
+            .count(listed.code, listed == expected && lent == after);
+    }
+
+    fn checks(&mut self, log: &[u8], order: &[u32], expected: Verdict) {
+        let v = (self.check)(log, order);
+        self.checks.count(v.code, v == expected);
+    }
+
+    /// Prints the counts; how many of the two failed.
+    fn show(&self) -> u32 {
+        let mut failed = 0;
+        for (what, t, codes) in [
+            ("checker", &self.checks, &[0, 11, 12, 13, 14, 15, 16][..]),
+            ("lister", &self.lists, &[0, 11, 12, 13, 14, 17, 18][..]),
+        ] {
+            print!("{} {what}: {} verdicts, codes", self.name, t.asked);
+            for &c in codes {
+                print!(" {c}:{}", t.codes[c]);
+            }
+            println!(", {} differ", t.differ);
+            if t.differ != 0 || codes.iter().any(|&c| t.codes[c] == 0) {
+                failed += 1;
+            }
+        }
+        failed
+    }
+}
+
 pub fn run(seed: u64, logs: u64) -> bool {
     let mut r = Random::new(seed.wrapping_mul(13_000_003));
-    let mut checks = Tally::default();
-    let mut lists = Tally::default();
+    let mut sides = [
+        side("proved", ours::check, ours::list),
+        side("fast", judge_fast::check, judge_fast::list),
+        side(
+            "halving",
+            judge_fast::check_halving,
+            judge_fast::list_halving,
+        ),
+    ];
     for _ in 0..logs {
         let mut l = log(&mut r);
         if r.one_in(3) {
@@ -115,39 +207,29 @@ pub fn run(seed: u64, logs: u64) -> bool {
             2 => 0,
             _ => 512 + r.below(40) as usize,
         };
-        let before: Vec<u32> = (0..room).map(|i| !(i as u32)).collect();
-        let mut lent = before.clone();
-        let listed = ours::list(&l, &mut lent);
-        let (expected, given) = judge::list(&l, room);
-        let mut after = before;
-        after[..given.len()].copy_from_slice(&given);
-        lists.count(listed.code, listed == expected && lent == after);
+        let mut orders: Vec<(Vec<u32>, Verdict)> = (0..2)
+            .map(|_| {
+                let o = order(&mut r, &l, &right);
+                let v = judge::check(&l, &o);
+                (o, v)
+            })
+            .collect();
         // a listed order is accepted
         if verdict.code == 0 {
-            let v = ours::check(&l, &right);
-            checks.count(v.code, v == judge::check(&l, &right) && v.code == 0);
+            orders.push((right, verdict));
         }
-        for _ in 0..2 {
-            let o = order(&mut r, &l, &right);
-            let v = ours::check(&l, &o);
-            checks.count(v.code, v == judge::check(&l, &o));
+        for s in &mut sides {
+            s.lists(&l, room);
+            for (o, v) in &orders {
+                s.checks(&l, o, *v);
+            }
         }
     }
     println!("seed {seed}, {logs} logs");
-    let mut failed = 0;
-    for (name, t, codes) in [
-        ("checker", &checks, &[0, 11, 12, 13, 14, 15, 16][..]),
-        ("lister", &lists, &[0, 11, 12, 13, 14, 17, 18][..]),
-    ] {
-        print!("{name}: {} verdicts, codes", t.asked);
-        for &c in codes {
-            print!(" {c}:{}", t.codes[c]);
-        }
-        println!(", {} differ", t.differ);
-        if t.differ != 0 || codes.iter().any(|&c| t.codes[c] == 0) {
-            failed += 1;
-        }
-    }
-    println!("{} passed, {failed} failed", 2 - failed);
+    let failed: u32 = sides.iter().map(Side::show).sum();
+    println!(
+        "{} passed, {failed} failed",
+        2 * sides.len() as u32 - failed
+    );
     failed != 0
 }

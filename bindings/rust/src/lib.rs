@@ -54,6 +54,14 @@ extern "C" {
         room: usize,
         written: *mut u64,
     ) -> u32;
+    fn reedtangle_replay_by_value(
+        first: u32,
+        requests: *const u8,
+        length: usize,
+        answers: *mut u8,
+        room: usize,
+        written: *mut u64,
+    ) -> u32;
     fn reedtangle_check_order(
         log: *const u8,
         length: usize,
@@ -162,6 +170,7 @@ impl Refusal {
     }
 
     /// The refusal that has the code, 1 to 7.
+    #[inline]
     pub const fn from_code(code: u32) -> Option<Refusal> {
         Some(match code {
             1 => Refusal::Malformed,
@@ -208,6 +217,20 @@ pub struct State {
     pub sets: [u64; 512],
 }
 
+fn fresh(first: u32, s: &mut State) {
+    // Five fields of one value: they do not overlap, and each is as large as its type says.
+    unsafe {
+        reedtangle_fresh(
+            first,
+            &mut s.next,
+            &mut s.free,
+            &mut s.numbers,
+            &mut s.leads,
+            &mut s.sets,
+        )
+    };
+}
+
 /// An arbiter: one state, and the requests that it was asked.
 #[derive(Clone, PartialEq, Eq, Hash, Debug)]
 pub struct Arbiter {
@@ -224,18 +247,13 @@ impl Arbiter {
             leads: [0; 32],
             sets: [0; 512],
         };
-        // Five fields of one value: they do not overlap, and each is as large as its type says.
-        unsafe {
-            reedtangle_fresh(
-                first,
-                &mut state.next,
-                &mut state.free,
-                &mut state.numbers,
-                &mut state.leads,
-                &mut state.sets,
-            )
-        };
+        fresh(first, &mut state);
         Arbiter { state }
+    }
+
+    /// Starts again, in the same memory: what [`Arbiter::new`] makes, whatever was held before.
+    pub fn restart(&mut self, first: u32) {
+        fresh(first, &mut self.state);
     }
 
     /// Goes on from a state that was kept. Any content is safe and gets an answer; that the answers are those of a history holds for
@@ -254,10 +272,22 @@ impl Arbiter {
     ///
     /// From a fresh state each answer is the one that the whole history gives: a read or write of an open job on a real cell gets
     /// [`Refusal::Circle`] exactly when no order of the jobs would do with it.
+    #[inline]
     pub fn ask(&mut self, request: [u8; 8]) -> Result<Job, Refusal> {
+        let (code, job) = self.answer(request);
+        match Refusal::from_code(code) {
+            Some(refusal) => Err(refusal),
+            None if code == 0 => Ok(Job(job)),
+            None => unexpected(code),
+        }
+    }
+
+    /// One request as with [`Arbiter::ask`], the answer in document 01's numbers: the code, 0 for a grant, and the job, 0 for a refusal.
+    #[inline]
+    pub fn answer(&mut self, request: [u8; 8]) -> (u32, u32) {
         let s = &mut self.state;
         // Five fields of one value and a request apart from it: they do not overlap, and each is as large as its type says.
-        let both = unsafe {
+        apart(unsafe {
             reedtangle_step(
                 &mut s.next,
                 &mut s.free,
@@ -266,13 +296,7 @@ impl Arbiter {
                 &mut s.sets,
                 &request,
             )
-        };
-        let (code, job) = apart(both);
-        match Refusal::from_code(code) {
-            Some(refusal) => Err(refusal),
-            None if code == 0 => Ok(Job(job)),
-            None => unexpected(code),
-        }
+        })
     }
 
     /// Asks to open a job.
@@ -327,11 +351,25 @@ impl Error for NoRoom {}
 /// Each eight bytes of `requests` get eight of answer: the code, and the job or 0, four bytes each, low byte first. A tail of 1 to 7 bytes
 /// is not read, and bytes of `answers` past those written stay. Where the room is short nothing is written. The answers are those of
 /// [`Arbiter::ask`] one by one.
+#[inline]
 pub fn replay(first: u32, requests: &[u8], answers: &mut [u8]) -> Result<usize, NoRoom> {
+    run(reedtangle_replay, first, requests, answers)
+}
+
+/// The same with the state handed on by value from step to step: for measuring what that costs.
+#[inline]
+pub fn replay_by_value(first: u32, requests: &[u8], answers: &mut [u8]) -> Result<usize, NoRoom> {
+    run(reedtangle_replay_by_value, first, requests, answers)
+}
+
+type Run = unsafe extern "C" fn(u32, *const u8, usize, *mut u8, usize, *mut u64) -> u32;
+
+#[inline]
+fn run(by: Run, first: u32, requests: &[u8], answers: &mut [u8]) -> Result<usize, NoRoom> {
     let mut written = 0;
     // Two slices and a number, apart since one slice and the number are lent to be written.
     let code = unsafe {
-        reedtangle_replay(
+        by(
             first,
             requests.as_ptr(),
             requests.len(),
@@ -499,6 +537,7 @@ impl Error for NoList {}
 /// It is accepted exactly when the log has no fault, the order has each kept job once and nothing else, and no conflicting pair of steps
 /// runs backward. Running the kept jobs one at a time in that order then shows each of their reads the same value, and leaves each cell the
 /// same, as the log did. Takes about 28,000 bytes of stack.
+#[inline]
 pub fn check_order(log: &[u8], order: &[u32]) -> Result<usize, BadOrder> {
     // Two slices that are only read.
     let both =
@@ -520,6 +559,7 @@ pub fn check_order(log: &[u8], order: &[u32]) -> Result<usize, BadOrder> {
 ///
 /// With room, an order comes exactly when there is one. The log of what a fresh arbiter granted, within the sizes of a log, always has one.
 /// Takes about 104,000 bytes of stack.
+#[inline]
 pub fn list_order(log: &[u8], out: &mut [u32]) -> Result<usize, NoList> {
     // Two slices, apart since one is lent to be written.
     let both =

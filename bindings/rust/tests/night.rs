@@ -10,10 +10,16 @@ fn numbers(reply: Result<Job, Refusal>) -> (u32, u32) {
     }
 }
 
-/// One request. A grant goes to the log; a refusal must leave the state as it was.
+/// One request. A grant goes to the log; a refusal must leave the state as it was. The same in numbers must give the same.
 fn ask(arbiter: &mut Arbiter, log: &mut Vec<u8>, request: [u8; 8]) -> Result<Job, Refusal> {
     let before = arbiter.clone();
     let reply = arbiter.ask(request);
+    let mut other = before.clone();
+    assert_eq!(other.answer(request), numbers(reply));
+    assert!(
+        other == *arbiter,
+        "the two ways to ask leave different states"
+    );
     match reply {
         Ok(job) => log.extend(record(request, job)),
         Err(_) => assert!(*arbiter == before, "a refusal changed the state"),
@@ -88,6 +94,19 @@ fn two_nights() -> (Vec<u8>, Vec<u8>) {
 fn the_night() {
     let (one, two) = two_nights();
     assert_eq!((one.len(), two.len()), (80, 80));
+}
+
+#[test]
+fn a_restart() {
+    let mut arbiter = Arbiter::new(1);
+    for row in &NIGHT[..9] {
+        let _ = arbiter.ask(bytes(row));
+    }
+    assert_ne!(arbiter, Arbiter::new(4));
+    arbiter.restart(u32::MAX);
+    assert_eq!(arbiter, Arbiter::new(u32::MAX));
+    assert_eq!(arbiter.open(), Ok(Job(u32::MAX)));
+    assert_eq!(arbiter.open(), Err(Refusal::Spent));
 }
 
 #[test]

@@ -6,7 +6,7 @@
 -- Assumes nothing.
 use mathlib.Core.Path.{_≡_, refl, sym, ap, ap₂, _∙_, subst}
 use mathlib.Core.Logic.{⊎-elim}
-use mathlib.Core.Bool.{Bool, true, false, not, _&&_, _||_, cond, and-comm, and-true, and-false, or-true, or-false, or-comm, Bool·not-not}
+use mathlib.Core.Bool.{Bool, true, false, not, _&&_, _||_, cond, and-comm, and-true, and-false, or-true, or-false, or-comm}
 use mathlib.Core.List.{List}
 use Prim.Native.Nat.{ℕ, _+_, _-_, _*_, _/_, _%_, _^_, _≤_, _<_}
 use native.Mathlib.Nat.{zero-add, lt-of-le-of-lt, lt-of-lt-of-le}
@@ -14,28 +14,19 @@ use native.Mathlib.Omega.{arith}
 use lib.Bits.{bitOr, bitAnd, and-le-r, or-lt}
 use lib.Dec.{eqb}
 use lib.ListN.{getD}
-use lib.Pow.{pow-mono, pow-lt}
+use lib.Pow.{pow-mono}
 use borrow.Author.Tests.{ne-eqb}
 use Rattle.graph.specs.Decide.{by-test, answer, eq-test, lt-test}
 use Rattle.marks.specs.Marks.{bit, mask-of}
-use Rattle.marks.specs.MarkLaws.{bit-pow, bit-above, bit-or, bit-and, bit-others, mask-lt, mask-same, and-mark}
+use Rattle.marks.specs.MarkLaws.{bit-above, bit-or, bit-and, bit-others, mask-lt, mask-same, bit-put, bit-rest, test-mark}
+use Rattle.marks.specs.MaskLaws.{bit-of, masked}
 use Rattle.history.specs.Events.{read, write}
 use Rattle.history.specs.Memory.{Footprint, meets}
 use Rattle.held.specs.Held.{own-at, past-at, cell-at, word-at, touched}
 use Rattle.arbiter.specs.Lent.{sets-only, kind-of}
-use Rattle.arbiter.proofs.MaskLaws.{one-shl, bit-of, masked}
+use Rattle.arbiter.specs.Rows.{met, touches, clash-word, past-word}
 
 -- ---- the words that the code reads
-
--- what `clashing` and `clashing_past` give of row i
-abbrev pub clash-word : List ℕ → Bool → ℕ → ℕ → ℕ
-clash-word l w p i =
-    cond w
-    (bitOr (bitOr (getD l (i * 16 + (4 + p)) 0) (getD l (i * 16 + (12 + p)) 0)) (bitOr (getD l (i * 16 + p) 0) (getD l (i * 16 + (8 + p)) 0)))
-    (bitOr (getD l (i * 16 + (4 + p)) 0) (getD l (i * 16 + (12 + p)) 0))
-
-abbrev pub past-word : List ℕ → Bool → ℕ → ℕ → ℕ
-past-word l w p i = cond w (bitOr (getD l (i * 16 + (12 + p)) 0) (getD l (i * 16 + (8 + p)) 0)) (getD l (i * 16 + (12 + p)) 0)
 
 -- a write clashes with any footprint that has the cell, a read with one that has written it
 meets-is : (f : Footprint) (w : Bool) (c : ℕ) → meets f (kind-of w) c ≡ cond w (f read c || f write c) (f write c)
@@ -95,9 +86,6 @@ module _ (l : List ℕ) (c i : ℕ) where
 abbrev pub tests : ℕ → ℕ → Bool
 tests word mark = not (eqb (bitAnd word mark) 0)
 
-tests-bit : (n s : ℕ) → tests n (2 ^ s) ≡ bit n s
-tests-bit n s = ap not (and-mark n s) ∙ Bool·not-not (bit n s)
-
 -- of a word that a call gives
 pub tested : {b : Bool} {r n : ℕ} (m : ℕ) → r ≡ n → tests r m ≡ b → tests n m ≡ b
 tested m e t = ap (λ (x : ℕ). tests x m) (sym e) ∙ t
@@ -107,21 +95,17 @@ clashes l w p mark i = tests (clash-word l w p i) mark
 
 -- ---- the rows that clash with a step of no row
 
--- slot 32 is no row, so that own and past of every row count
-abbrev pub met : List ℕ → Bool → ℕ → ℕ → Bool
-met l w c i = touched (sets-only l) (kind-of w) 32 c i
-
 met-is : (l : List ℕ) (w : Bool) (c : ℕ) {i : ℕ} → i < 32
-    → met l w c i ≡ meets (own-at (sets-only l) i) (kind-of w) c || meets (past-at (sets-only l) i) (kind-of w) c
+    → met l (kind-of w) c i ≡ meets (own-at (sets-only l) i) (kind-of w) c || meets (past-at (sets-only l) i) (kind-of w) c
 unfolding touched
 met-is l w c {i} q =
     ap (λ (x : Bool). (not x && meets (own-at (sets-only l) i) (kind-of w) c) || meets (past-at (sets-only l) i) (kind-of w) c) (ne-eqb i 32 (omega arith))
 
 -- the tests of their words tell them
-pub clash-mask : {p m : ℕ} (l : List ℕ) (w : Bool) (c t : ℕ) → t ≤ 32 → p ≡ c / 64 → m ≡ 2 ^ (c % 64) → mask-of t (clashes l w p m) ≡ mask-of t (met l w c)
+pub clash-mask : {p m : ℕ} (l : List ℕ) (w : Bool) (c t : ℕ) → t ≤ 32 → p ≡ c / 64 → m ≡ 2 ^ (c % 64) → mask-of t (clashes l w p m) ≡ mask-of t (met l (kind-of w) c)
 clash-mask {p} {m} l w c t h ep em =
-    mask-same t (clashes l w p m) (met l w c)
-    (λ k q. ap₂ (λ (x y : ℕ). clashes l w x y k) ep em ∙ tests-bit (clash-word l w (c / 64) k) (c % 64) ∙ clash-bit l c k w ∙ sym (met-is l w c (lt-of-lt-of-le q h)))
+    mask-same t (clashes l w p m) (met l (kind-of w) c)
+    (λ k q. ap₂ (λ (x y : ℕ). clashes l w x y k) ep em ∙ test-mark (clash-word l w (c / 64) k) (c % 64) ∙ clash-bit l c k w ∙ sym (met-is l w c (lt-of-lt-of-le q h)))
 
 -- the marks of `slots`, none of which is t or above, that pass f
 pub mask-among : {x slots : ℕ} (t : ℕ) (f : ℕ → Bool) → x ≡ mask-of t f → slots < 2 ^ t → t ≤ 32 → bitAnd x slots ≡ mask-of 32 (λ i. bit slots i && f i)
@@ -137,15 +121,6 @@ mask-among {x} {slots} t f e h q =
         let z = bit-above t slots k h r in
         ap (λ (b : Bool). bit x k && b) z ∙ and-false (bit x k) ∙ sym (ap (λ (b : Bool). b && f k) z)
 
--- ---- n | (1 << i)
-
-more-fits : {n i : ℕ} → n < 2 ^ 32 → i < 32 → bitOr n (1 * 2 ^ i % 2 ^ 32) < 2 ^ 32
-more-fits {n} {i} h q = or-lt 32 n (1 * 2 ^ i % 2 ^ 32) h (omega arith)
-
-bit-more : (n i k : ℕ) → i < 32 → bit (bitOr n (1 * 2 ^ i % 2 ^ 32)) k ≡ bit n k || eqb k i
-bit-more n i k h =
-    ap (λ (x : ℕ). bit (bitOr n x) k) (one-shl h) ∙ bit-or n (2 ^ i) k ∙ ap (λ (b : Bool). bit n k || b) (bit-pow i k)
-
 -- ---- the slots that come to lead to s
 
 -- the other open slots, as the code masks them
@@ -155,17 +130,12 @@ others free s = bitAnd (2 ^ 32 - 1 - free) (2 ^ 32 - 1 - 1 * 2 ^ s % 2 ^ 32)
 bit-other : {free s k : ℕ} → free < 2 ^ 32 → s < 32 → k < 32 → bit (others free s) k ≡ not (bit free k) && not (eqb k s)
 bit-other {free} {s} {k} h hs q =
     bit-and (2 ^ 32 - 1 - free) (2 ^ 32 - 1 - 1 * 2 ^ s % 2 ^ 32) k
-    ∙ ap₂ _&&_ (bit-others 32 free k h q)
-    (ap (λ (x : ℕ). bit (2 ^ 32 - 1 - x) k) (one-shl hs) ∙ bit-others 32 (2 ^ s) k (pow-lt hs) q ∙ ap not (bit-pow s k))
-
--- slot i is open and comes to lead to s
-abbrev pub touches : ℕ → List ℕ → Bool → ℕ → ℕ → ℕ → Bool
-touches free l w s c i = not (bit free i) && touched (sets-only l) (kind-of w) s c i
+    ∙ ap₂ _&&_ (bit-others 32 free k h q) (bit-rest 32 s k hs q)
 
 -- The others that clash, and s itself where its past does.
 pub touched-mask : {free s p m found r : ℕ} (l : List ℕ) (w : Bool) (c : ℕ) (b : Bool) → free < 2 ^ 32 → s < 32 → bit free s ≡ false
-    → p ≡ c / 64 → m ≡ 2 ^ (c % 64) → found ≡ mask-of 32 (λ i. bit (others free s) i && met l w c i) → r ≡ past-word l w p s → tests r m ≡ b
-    → cond b (bitOr found (1 * 2 ^ s % 2 ^ 32)) found ≡ mask-of 32 (touches free l w s c)
+    → p ≡ c / 64 → m ≡ 2 ^ (c % 64) → found ≡ mask-of 32 (λ i. bit (others free s) i && met l (kind-of w) c i) → r ≡ past-word l w p s → tests r m ≡ b
+    → cond b (bitOr found (1 * 2 ^ s % 2 ^ 32)) found ≡ mask-of 32 (touches free l (kind-of w) s c)
 unfolding touched
 touched-mask {free} {s} {p} {m} {found} {r} l w c b hf hs here ep em ef er eb =
     masked 32 (λ i. not (bit free i) && ((not (eqb i s) && own i) || past i)) (fits b)
@@ -178,22 +148,22 @@ touched-mask {free} {s} {p} {m} {found} {r} l w c b hf hs here ep em ef er eb =
     past i = meets (past-at (sets-only l) i) (kind-of w) c
 
     found-fits : found < 2 ^ 32
-    found-fits = subst (λ (n : ℕ). n < 2 ^ 32) (sym ef) (mask-lt 32 (λ i. bit (others free s) i && met l w c i))
+    found-fits = subst (λ (n : ℕ). n < 2 ^ 32) (sym ef) (mask-lt 32 (λ i. bit (others free s) i && met l (kind-of w) c i))
 
     fits : (b : Bool) → cond b (bitOr found (1 * 2 ^ s % 2 ^ 32)) found < 2 ^ 32
-    fits true = more-fits found-fits hs
+    fits true = or-lt 32 found (1 * 2 ^ s % 2 ^ 32) found-fits (omega arith)
     fits false = found-fits
 
     with-own : (b : Bool) (k : ℕ) → bit (cond b (bitOr found (1 * 2 ^ s % 2 ^ 32)) found) k ≡ bit found k || b && eqb k s
-    with-own true k = bit-more found s k hs
+    with-own true k = bit-put 32 found s k hs
     with-own false k = sym (or-false (bit found k))
 
     gathered : (k : ℕ) → k < 32 → bit found k ≡ (not (bit free k) && not (eqb k s)) && (own k || past k)
-    gathered k q = bit-of 32 (λ i. bit (others free s) i && met l w c i) ef k q ∙ ap₂ _&&_ (bit-other hf hs q) (met-is l w c q)
+    gathered k q = bit-of 32 (λ i. bit (others free s) i && met l (kind-of w) c i) ef k q ∙ ap₂ _&&_ (bit-other hf hs q) (met-is l w c q)
 
     itself : b ≡ past s
     itself =
-        sym eb ∙ ap₂ tests (er ∙ ap (λ (x : ℕ). past-word l w x s) ep) em ∙ tests-bit (past-word l w (c / 64) s) (c % 64) ∙ past-bit l c s w
+        sym eb ∙ ap₂ tests (er ∙ ap (λ (x : ℕ). past-word l w x s) ep) em ∙ test-mark (past-word l w (c / 64) s) (c % 64) ∙ past-bit l c s w
 
     agree : (k : ℕ)
         → (not (bit free k) && not (eqb k s)) && (own k || past k) || past s && eqb k s ≡ not (bit free k) && ((not (eqb k s) && own k) || past k)

@@ -1,4 +1,3 @@
-pub mod MaskLaws
 pub mod SearchLaws
 pub mod SetLaws
 pub mod ClashLaws

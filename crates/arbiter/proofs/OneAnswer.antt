@@ -41,7 +41,9 @@ use Rattle.arbiter.proofs.Replayed.place.Reads as replayed-place-reads
 use Rattle.arbiter.proofs.replay.Kinds as replay-kinds
 use Rattle.arbiter.proofs.replay.Reads as replay-reads
 use Rattle.arbiter.proofs.reedtangle_replay.Kinds as export-replay-kinds
+use Rattle.arbiter.proofs.reedtangle_replay_by_value.Kinds as export-by-value-kinds
 use Rattle.arbiter.proofs.reedtangle_replay.Reads as export-replay-reads
+use Rattle.arbiter.proofs.reedtangle_replay_by_value.Reads as export-by-value-reads
 use Rattle.arbiter.proofs.reedtangle_step.Kinds as export-step-kinds
 use Rattle.arbiter.proofs.reedtangle_step.Reads as export-step-reads
 use Rattle.arbiter.proofs.reedtangle_fresh.Kinds as export-fresh-kinds
@@ -156,6 +158,13 @@ pub one-export-replay : (κs : Lfts 3) (a : Dens κs export-replay-kinds.ps) (x 
     → export-replay-reads.Post κs a y t
     → (x ≡ y) × (now (s .1 .1 .0) ≡ now (t .1 .1 .0)) × (now (s .1 .1 .1 .0) ≡ now (t .1 .1 .1 .0))
 one-export-replay κs a x y s t p q = let same = p ∙ sym q in (λ i. same i .code, λ i. same i .bytes, λ i. same i .place)
+
+pub one-export-replay-by-value : (κs : Lfts 3) (a : Dens κs export-by-value-kinds.ps) (x y : resT export-by-value-kinds.r κs .Denot)
+    (s t : AtExit (endedOf 3 export-by-value-kinds.ps export-by-value-kinds.r) κs)
+    → export-by-value-reads.Post κs a x s
+    → export-by-value-reads.Post κs a y t
+    → (x ≡ y) × (now (s .1 .1 .0) ≡ now (t .1 .1 .0)) × (now (s .1 .1 .1 .0) ≡ now (t .1 .1 .1 .0))
+one-export-replay-by-value κs a x y s t p q = let same = p ∙ sym q in (λ i. same i .code, λ i. same i .bytes, λ i. same i .place)
 
 pub one-export-step : (κs : Lfts 6) (a : Dens κs export-step-kinds.ps) (x y : resT export-step-kinds.r κs .Denot)
     (s t : AtExit (endedOf 6 export-step-kinds.ps export-step-kinds.r) κs)

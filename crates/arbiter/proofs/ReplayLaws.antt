@@ -1,67 +1,26 @@
 -- What the proof of `replay` needs beyond the contracts of the functions that it calls.
 --
--- First the requests: the records of bytes are the first eight and the records of the rest (`first-record`), and fewer than eight bytes have none
--- (`no-record`). Then a list after one run of stores (`Stored`), and what is told of a replay. Then the loop (`Replaying`): the bytes of all replies are those
+-- First a list after one run of stores (`Stored`), and what is told of a replay. Then the loop (`Replaying`): the bytes of all replies are those
 -- written so far and those of the answers that the state will give to the records that are left, so that with none left all are written. Last
 -- one request in one number, for `reedtangle_step`.
 -- Assumes nothing.
 use mathlib.Core.Path.{_≡_, refl, sym, ap, ap₂, _∙_}
 use mathlib.Core.List.{List, [], _∷_, _++_, append-nil, append-assoc}
 use Prim.Native.Nat.{ℕ, suc, _+_, _*_, _/_, _≤_, _<_}
-use native.Mathlib.Nat.{add-zero}
 use native.Mathlib.Omega.{arith}
-use lib.ListN.{length, getD, set, take, drop, length-append, length-drop, take-append-drop}
-use lib.Seq.{length-take-le, take-at, drop-at, drop-drop, getD-drop, sets-eq}
+use lib.ListN.{length, set, take, drop, length-append, length-drop, take-append-drop}
+use lib.Seq.{length-take-le, take-at, drop-at, drop-drop, sets-eq}
 use borrow.Author.Tests.{lt-ltb, le-ltb}
-use Rattle.history.specs.Formats.{bytes-of, records, answer-bytes}
+use Rattle.history.specs.Formats.{bytes-of, request-of, records, answer-bytes}
+use Rattle.history.specs.RecordLaws.{first-record, no-record}
 use Rattle.history.specs.Replies.{Reply, Request, replies}
 use Rattle.held.specs.Held.{Held, fresh-held, answer-to, after, answers}
 use Rattle.held.specs.HeldExact.{held-exact}
-use Rattle.arbiter.specs.Lent.{lent, request-of, numbered, Steps}
+use Rattle.arbiter.specs.Lent.{lent, numbered, Steps}
 use Rattle.arbiter.specs.Replay.{replayed, told, packed}
 use Rattle.arbiter.specs.declared.Moved.{Moved}
 use Rattle.arbiter.specs.declared.Replayed.{Replayed}
 use Rattle.arbiter.specs.declared.Replayed.the-variants.{Done, NoRoom}
-
--- ---- the requests
-
--- to show something of a list of eight or more
-by-eight : (P : List ℕ → Type 0) → ((k z c d i j m n : ℕ) (b : List ℕ) → P (k ∷ z ∷ c ∷ d ∷ i ∷ j ∷ m ∷ n ∷ b)) → (b : List ℕ) → 8 ≤ length b → P b
-by-eight P f (k ∷ z ∷ c ∷ d ∷ i ∷ j ∷ m ∷ n ∷ b) h = f k z c d i j m n b
-by-eight P f [] h = absurd (omega arith)
-by-eight P f (k ∷ []) h = absurd (omega arith)
-by-eight P f (k ∷ z ∷ []) h = absurd (omega arith)
-by-eight P f (k ∷ z ∷ c ∷ []) h = absurd (omega arith)
-by-eight P f (k ∷ z ∷ c ∷ d ∷ []) h = absurd (omega arith)
-by-eight P f (k ∷ z ∷ c ∷ d ∷ i ∷ []) h = absurd (omega arith)
-by-eight P f (k ∷ z ∷ c ∷ d ∷ i ∷ j ∷ []) h = absurd (omega arith)
-by-eight P f (k ∷ z ∷ c ∷ d ∷ i ∷ j ∷ m ∷ []) h = absurd (omega arith)
-
-first-record : (b : List ℕ) → 8 ≤ length b → records b ≡ request-of (take 8 b) ∷ records (drop 8 b)
-unfolding request-of
-first-record = by-eight (λ b. records b ≡ request-of (take 8 b) ∷ records (drop 8 b)) (λ k z c d i j m n b. refl)
-
-no-record : (b : List ℕ) → length b < 8 → records b ≡ []
-no-record (k ∷ z ∷ c ∷ d ∷ i ∷ j ∷ m ∷ n ∷ b) h = absurd (omega arith)
-no-record [] h = refl
-no-record (k ∷ []) h = refl
-no-record (k ∷ z ∷ []) h = refl
-no-record (k ∷ z ∷ c ∷ []) h = refl
-no-record (k ∷ z ∷ c ∷ d ∷ []) h = refl
-no-record (k ∷ z ∷ c ∷ d ∷ i ∷ []) h = refl
-no-record (k ∷ z ∷ c ∷ d ∷ i ∷ j ∷ []) h = refl
-no-record (k ∷ z ∷ c ∷ d ∷ i ∷ j ∷ m ∷ []) h = refl
-
--- the bytes one by one, as `request_at` reads them
-abbrev one-by-one : List ℕ → List ℕ
-one-by-one b = getD b 0 0 ∷ getD b 1 0 ∷ getD b 2 0 ∷ getD b 3 0 ∷ getD b 4 0 ∷ getD b 5 0 ∷ getD b 6 0 ∷ getD b 7 0 ∷ []
-
-pub eight-out : (b : List ℕ) (at : ℕ) → at + 8 ≤ length b
-    → getD b at 0 ∷ getD b (at + 1) 0 ∷ getD b (at + 2) 0 ∷ getD b (at + 3) 0 ∷ getD b (at + 4) 0 ∷ getD b (at + 5) 0 ∷ getD b (at + 6) 0 ∷ getD b (at + 7) 0 ∷ []
-    ≡ take 8 (drop at b)
-eight-out b at h =
-    let r : 8 ≤ length (drop at b) = simp length-drop (omega arith) in
-    simp (getD-drop, add-zero) at (by-eight (λ l. one-by-one l ≡ take 8 l) (λ k z c d i j m n l. refl) (drop at b) r)
 
 -- ---- a run of stores
 

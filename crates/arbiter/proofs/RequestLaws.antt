@@ -10,7 +10,7 @@ use mathlib.Core.Path.{_≡_, refl, sym, ap, ap₂, _∙_, subst, subst₃}
 use mathlib.Core.Logic.{_⊎_, inl, inr, ⊎-elim}
 use mathlib.Core.Bool.{Bool, true, false, not, _&&_, _||_, cond, and-false, or-false}
 use mathlib.Core.Option.{Option, none, some}
-use mathlib.Core.List.{List, [], _∷_}
+use mathlib.Core.List.{List, _∷_}
 use Prim.Native.Nat.{ℕ, zero, suc, _+_, _-_, _*_, _/_, _%_, _^_, _≤_, _<_, suc-le-suc}
 use native.Mathlib.Nat.{add-assoc, not-suc-le-zero, zero-lt-suc, le-of-suc-le-suc, lt-trans, lt-of-le-of-lt, mod-eq-of-lt}
 use native.Mathlib.Numerals.{add-one}
@@ -18,28 +18,29 @@ use native.Mathlib.Omega.{arith}
 use lib.Bits.{bitOr, bitAnd, or-lt, and-le-l, and-le-r}
 use lib.Count.{ones, trailingZeros, trailing-of-zero}
 use lib.Dec.{T, leb, eqb}
-use lib.ListN.{length, getD, take, drop, replicate}
-use lib.Pow.{ones-sub-lt}
-use lib.Seq.{take-nil, getD-drop}
+use lib.ListN.{length, getD, replicate}
 use borrow.Author.Tests.{le-leb, lt-leb, eq-eqb, ne-eqb}
-use Rattle.graph.specs.Decide.{Decides, some-of, false-is, own-test, eq-test, le-test, not-test, and-test, or-test, read-as, answer, same-test, test-true}
-use Rattle.graph.specs.Lists.{_∈_, only, only-yes, only-no, only-only, only-keeps, only-from}
+use Rattle.graph.specs.Decide.{Decides, false-is, own-test, eq-test, le-test, not-test, and-test, or-test, read-as, answer, same-test, test-true}
+use Rattle.graph.specs.Lists.{_∈_, only, only-yes, only-no, only-both, only-only, only-keeps, only-from}
 use Rattle.graph.specs.Reach.{reach, reach-test}
 use Rattle.graph.specs.Walk.{Via, one, carry, join, relax, cut, into}
 use Rattle.marks.specs.Marks.{bit, mask-of, without, tab, upto}
-use Rattle.marks.specs.MarkLaws.{digit, getD-tab, tab-same, upto-has, upto-from, bit-zero, bit-pow, equal-test, or-bit, and-bit, bit-others, mask-lt, mask-bits, tab-suc}
-use Rattle.marks.specs.MarkLaws.{Lowest, lowest-mark, nonzero-bit, bit-nonzero, only-count, ones-count, and-others}
+use Rattle.marks.specs.MarkLaws.{getD-tab, tab-same, upto-has, upto-from, bit-zero, bit-pow, equal-test, or-bit, and-bit, mask-lt, mask-bits, tab-suc}
+use Rattle.marks.specs.MarkLaws.{Lowest, lowest-mark, nonzero-test, ones-count, and-others, shl-one}
+use Rattle.marks.specs.MaskLaws.{bit-of, mask-not}
 use Rattle.marks.specs.Words.{empty}
 use Rattle.history.specs.Events.{Kind}
+use Rattle.history.specs.Formats.{request-of}
 use Rattle.history.specs.Replies.{Reply, Want, an-open, a-step, an-end, an-abandon, want, tests, code-of, job-of, reply-of}
 use Rattle.held.specs.Held.{Held, fresh-held, first-in, is-some, at-slot, with-slot, set-place, open-at, open-slots, number-at, leads-at, word-at, cell-at, slot-of, free-slot}
 use Rattle.held.specs.Held.{touched, chain-back, altered, facts, opened-at, stepped-at, left-at, ended-at, abandoned-at, moved, answer-to, after}
-use Rattle.arbiter.specs.Lent.{lent, sets-only, numbered, kind-of, code-for, request-of, Does, Steps}
+use Rattle.arbiter.specs.Lent.{lent, numbered, kind-of, code-for, Does, Steps}
+use Rattle.arbiter.specs.Rows.{is-open, holds, leads-to, reaches, touches, theirs, gained-word, folded-word, put, struck, gained-row, gained, blanked, folded, marked-own}
 use Rattle.arbiter.specs.declared.Answer.{Answer}
 use Rattle.arbiter.specs.declared.Answer.the-variants.{Granted, Malformed, NoCell, NotOpen, HasWritten, Full, Spent, Circle}
 use Rattle.arbiter.specs.declared.JobNumber.{JobNumber}
 use Rattle.arbiter.specs.declared.Moved.{Moved}
-use Rattle.arbiter.proofs.MaskLaws.{one-shl, bit-of, masked}
+use Rattle.arbiter.proofs.SetLaws.{Part, part-tab}
 
 -- ---- what the callees ensure
 
@@ -50,54 +51,6 @@ slot found = trailingZeros 32 found
 abbrev pub mark : ℕ → ℕ
 mark s = 1 * 2 ^ s % 4294967296
 
--- the rules of the masks: open; open and with the number (`holding`, `slot_for`); open and another that leads to s (`leading`); open and reached from s (`reached`); open
--- and touched by a step of s (`touching`)
-abbrev pub is-open : ℕ → ℕ → Bool
-is-open free i = not (bit free i)
-
-abbrev pub holds : ℕ → List ℕ → ℕ → ℕ → Bool
-holds free numbers j i = is-open free i && eqb (getD numbers i 0) j
-
-abbrev pub leads-to : ℕ → List ℕ → ℕ → ℕ → Bool
-leads-to free leads s i = is-open free i && (not (eqb i s) && bit (getD leads i 0) s)
-
-abbrev pub reaches : ℕ → List ℕ → ℕ → ℕ → Bool
-reaches free leads s x = is-open free x && reach (λ i y. bit (getD leads i 0) y) (only (is-open free) (upto 32)) s x
-
-abbrev pub touches : ℕ → List ℕ → Kind → ℕ → ℕ → ℕ → Bool
-touches free sets k s c i = is-open free i && touched (sets-only sets) k s c i
-
--- the tables: a number put into its row; no row leads to s and its own is blank (`strike`); the sets of s are blank (`blank`); the rows that pass p gain leads
--- (`lead_to`, `fold_leads`); they take over the sets of s (`fold_sets`); a set of s gains a cell (`mark_own`)
-abbrev pub put : List ℕ → ℕ → ℕ → List ℕ
-put numbers s x = tab 32 (λ i. cond (eqb i s) x (getD numbers i 0))
-
-abbrev pub struck : List ℕ → ℕ → List ℕ
-struck leads s = tab 32 (λ i. cond (eqb i s) 0 (without (getD leads i 0) s))
-
-abbrev pub blanked : List ℕ → ℕ → List ℕ
-blanked sets s = tab 512 (λ w. cond (eqb (w / 16) s) 0 (getD sets w 0))
-
-abbrev row-gains : List ℕ → (ℕ → Bool) → ℕ → ℕ → ℕ
-row-gains leads p gain i = cond (p i) (bitOr (getD leads i 0) gain) (getD leads i 0)
-
-abbrev pub gained : List ℕ → (ℕ → Bool) → ℕ → List ℕ
-gained leads p gain = tab 32 (row-gains leads p gain)
-
-abbrev word-folds : List ℕ → (ℕ → Bool) → ℕ → ℕ → ℕ
-word-folds sets p s w =
-    cond (p (w / 16) && leb 8 (w % 16)) (bitOr (getD sets w 0) (bitOr (getD sets (s * 16 + (w % 16 - 8)) 0) (getD sets (s * 16 + w % 16) 0))) (getD sets w 0)
-
-abbrev pub folded : List ℕ → (ℕ → Bool) → ℕ → List ℕ
-folded sets p s = tab 512 (word-folds sets p s)
-
-abbrev pub marked-own : List ℕ → ℕ → ℕ → ℕ → List ℕ
-marked-own sets s place c = tab 512 (λ w. cond (eqb w (s * 16 + (place + c / 64))) (bitOr (getD sets w 0) (2 ^ (c % 64))) (getD sets w 0))
-
--- the leads of s to open slots
-abbrev pub theirs : ℕ → List ℕ → ℕ → ℕ
-theirs free leads s = bitAnd (getD leads s 0) (2 ^ 32 - 1 - free)
-
 -- what `refused` and `leave` ensure
 abbrev pub Refused : Held → Answer → Moved → Type 0
 Refused h a r = (r .next ≡ h .next) × (r .free ≡ h .free) × (r .answer ≡ a)
@@ -106,12 +59,6 @@ abbrev pub Leaves : Held → ℕ → ℕ → Moved → List ℕ → List ℕ →
 Leaves h s j r numbers leads sets =
     (r .next ≡ h .next) × (r .free ≡ bitOr (h .free) (2 ^ s)) × (numbered (r .answer) ≡ record { code = 0; job = j })
     × (numbers ≡ put (h .numbers) s 0) × (leads ≡ struck (h .leads) s) × (sets ≡ blanked (h .sets) s)
-
--- ---- as the code has it
-
--- !n: the mask of the marks that n has not
-others-mask : (w n : ℕ) → n < 2 ^ w → 2 ^ w - 1 - n ≡ mask-of w (is-open n)
-others-mask w n h = masked w (is-open n) (ones-sub-lt w n) (λ k q. bit-others w n k h q)
 
 -- ---- the lowest slot that passes a test
 
@@ -202,15 +149,6 @@ some-free ne z = ne (ap ones z)
 pub free-inside : {free : ℕ} → free < 2 ^ 32 → (ones free ≡ 0 → ⊥) → slot free < 32
 free-inside {free} fits ne = lowest-mark 32 free fits (some-free ne) .inside
 
--- those that pass and those that do not are all
-only-both : {X : Type 0} (p : X → Bool) (l : List X) → length (only p l) + length (only (λ x. not (p x)) l) ≡ length l
-only-both p [] = refl
-only-both p (x ∷ l) = ap₂ _+_ (only-count p x l) (only-count (λ x. not (p x)) x l) ∙ go (p x) (length (only p l)) (length (only (λ x. not (p x)) l)) (only-both p l)
-  where
-    go : (b : Bool) (m n : ℕ) → m + n ≡ length l → digit b + m + (digit (not b) + n) ≡ suc (length l)
-    go true m n e = omega arith
-    go false m n e = omega arith
-
 module _ (h : Held) (fits : h .free < 2 ^ 32) where
   pub free-first : (h .free ≡ 0 → ⊥) → free-slot h ≡ some (slot (h .free))
   unfolding free-slot
@@ -227,10 +165,6 @@ module _ (h : Held) (fits : h .free < 2 ^ 32) where
       same-test (le-test 32 (length (open-slots h))) (eq-test (ones (h .free)) 0) (λ q. omega arith) (λ q. omega arith)
 
 -- ---- the circle
-
--- a number of the width is not 0 exactly where it has a mark
-marks-test : (w n : ℕ) → n < 2 ^ w → Decides (not (eqb n 0)) ((k : ℕ) × (k < w) × T (bit n k))
-marks-test w n h = read-as (not-test (eq-test n 0)) (nonzero-bit w n h) (λ r. bit-nonzero n (r .0) (r .2))
 
 -- Leads that all point into the slot s are added, from the slots that are `new`. A chain over open slots from s back to s is then one that was there, or one
 -- that was there from s to a slot that is new, or s is new itself.
@@ -319,7 +253,7 @@ module _ (free : ℕ) (leads : List ℕ) (s : ℕ) (new : ℕ → Bool) where
 
     circle-tested : s < 32 → bit free s ≡ false → reach (λ i x. bit (getD leads i 0) x || (eqb x s && new i)) slots s s ≡ not (eqb tested 0)
     circle-tested inside was-open =
-        same-test back-test (marks-test 32 tested tested-lt)
+        same-test back-test (nonzero-test 32 tested tested-lt)
         (λ b.
         let r = back-hit (slot-test s inside .holds (not-test (own-test (bit free s)) .shows (false-is was-open))) b in
         let q = upto-from 32 (only-from (is-open free) (upto 32) (r .1) .0) in
@@ -335,30 +269,16 @@ circle-law h k s c es et em inside was-open = circle-tested (h .free) (h .leads)
 
 -- ---- the set that bars abandoning
 
-not-both : (a b : Bool) → not a || not b ≡ not (a && b)
-not-both true b = refl
-not-both false b = refl
-
--- some word is not 0 exactly where the set of the words is not empty; past the end of a list a word is 0
-some-word : (n : ℕ) (l : List ℕ) (f : ℕ → ℕ) → ((i : ℕ) → i < n → getD l i 0 ≡ f i) → some-of (λ w. not (eqb w 0)) (tab n f) ≡ not (empty (take n l))
-some-word zero l f h = refl
-some-word (suc n) [] f h =
-    ap (some-of (λ w. not (eqb w 0))) (tab-suc n f)
-    ∙ ap₂ (λ (w : ℕ) (b : Bool). not (eqb w 0) || b) (sym (h zero (zero-lt-suc n)))
-    (some-word n [] (λ k. f (suc k)) (λ i q. h (suc i) (suc-le-suc q)) ∙ ap (λ (l : List ℕ). not (empty l)) (take-nil n))
-some-word (suc n) (x ∷ l) f h =
-    ap (some-of (λ w. not (eqb w 0))) (tab-suc n f)
-    ∙ ap₂ (λ (w : ℕ) (b : Bool). not (eqb w 0) || b) (sym (h zero (zero-lt-suc n))) (some-word n l (λ k. f (suc k)) (λ i q. h (suc i) (suc-le-suc q)))
-    ∙ not-both (eqb x 0) (empty (take n l))
-
-pub altered-law : (h : Held) (s : ℕ) → altered h s ≡ not (empty (take 4 (drop (s * 16 + 4) (h .sets))))
+-- the code takes its words out of the list
+pub altered-law : {words : List ℕ} (h : Held) (s : ℕ) → Part (h .sets) (s * 16 + 4) words → altered h s ≡ not (empty words)
 unfolding altered word-at
-altered-law h s =
-    or-false (some-of (λ w. not (eqb w 0)) (tab 4 words))
-    ∙ some-word 4 (drop (s * 16 + 4) (h .sets)) words (λ i q. getD-drop (s * 16 + 4) (h .sets) i 0 ∙ ap (λ (n : ℕ). getD (h .sets) n 0) (add-assoc (s * 16) 4 i))
+altered-law {words} h s t =
+    or-false (not (empty (tab 4 own-writes)))
+    ∙ ap (λ (l : List ℕ). not (empty l))
+    (tab-same 4 own-writes (λ i. getD (h .sets) (s * 16 + 4 + i) 0) (λ i q. ap (λ (n : ℕ). getD (h .sets) n 0) (sym (add-assoc (s * 16) 4 i))) ∙ sym (part-tab t))
   where
-    words : ℕ → ℕ
-    words i = getD (h .sets) (s * 16 + (4 + i)) 0
+    own-writes : ℕ → ℕ
+    own-writes i = getD (h .sets) (s * 16 + (4 + i)) 0
 
 -- ---- the codes of any state, by what the tests come to
 
@@ -436,7 +356,7 @@ pub does-open-granted : {h : Held} {j c : ℕ} {numbers leads sets : List ℕ} �
 unfolding moved opened-at number-at leads-at job-of
 does-open-granted {h} {j} {c} fits q ne ns ls ss =
     does-by 0 (code-open h j c (lt-leb 4294967296 (h .next) q) (count-full h fits ∙ ne-eqb (ones (h .free)) 0 ne)) (λ i. record { code = 0; job = number i })
-    (lent-same (add-one (h .next)) (ap (λ (m : ℕ). bitAnd (h .free) (4294967295 - m)) (one-shl inside) ∙ and-others 32 (h .free) (slot (h .free)) fits inside)
+    (lent-same (add-one (h .next)) (and-others 32 (h .free) (slot (h .free)) fits inside)
     (ns ∙ ap (put (h .numbers) (slot (h .free))) number) ls ss
     ∙ ap (λ (o : Option ℕ). with-slot o (λ s. opened-at h s) h) (sym (free-first h fits (some-free ne))))
   where
@@ -467,7 +387,7 @@ own-place false = refl
 -- rows that gain by a mask gain by the mask's rule
 gained-by : (leads : List ℕ) (p : ℕ → Bool) (gain : ℕ) {from : ℕ} → from ≡ mask-of 32 p → gained leads (bit from) gain ≡ gained leads p gain
 gained-by leads p gain {from} e =
-    tab-same 32 (row-gains leads (bit from) gain) (row-gains leads p gain) (λ i q. ap (λ (b : Bool). cond b (bitOr (getD leads i 0) gain) (getD leads i 0)) (bit-of 32 p e i q))
+    tab-same 32 (gained-row leads (bit from) gain) (gained-row leads p gain) (λ i q. ap (λ (b : Bool). cond b (bitOr (getD leads i 0) gain) (getD leads i 0)) (bit-of 32 p e i q))
 
 module _ {h : Held} {writes : Bool} {j c s into-s seen : ℕ} (l : Looked h writes j c s into-s seen) where
   touched-here : into-s ≡ mask-of 32 (touches (h .free) (h .sets) (kind-of writes) s c)
@@ -477,7 +397,7 @@ module _ {h : Held} {writes : Bool} {j c s into-s seen : ℕ} (l : Looked h writ
   step-code r =
       let o = l .found in
       code-step h (kind-of writes) j c (lt-leb 256 c (l .cell-lt)) (l .found .first)
-      (circle-law h (kind-of writes) s c (l .reached) touched-here (one-shl (o .inside)) (o .inside) (o .was-open) ∙ r)
+      (circle-law h (kind-of writes) s c (l .reached) touched-here (shl-one 32 (o .inside)) (o .inside) (o .was-open) ∙ r)
 
   pub does-step-circle : {r : Moved} → (circle-code s into-s seen ≡ 0 → ⊥) → Refused h Circle r → Does h (a-step (kind-of writes)) j c r (h .numbers) (h .leads) (h .sets)
   does-step-circle f = refuses 7 (step-code (ap not (ne-eqb (circle-code s into-s seen) 0 f))) refl refl
@@ -497,18 +417,18 @@ module _ {h : Held} {writes : Bool} {j c s into-s seen : ℕ} (l : Looked h writ
 pub leaves : (h : Held) (s : ℕ) (job : JobNumber) {numbers leads sets : List ℕ} → s < 32
     → numbers ≡ put (h .numbers) s 0 → leads ≡ struck (h .leads) s → sets ≡ blanked (h .sets) s
     → Leaves h s (job .0) (record { next = h .next; free = bitOr (h .free) (mark s); answer = Granted job }) numbers leads sets
-leaves h s job inside ns ls ss = (refl, ap (bitOr (h .free)) (one-shl inside), refl, ns, ls, ss)
+leaves h s job inside ns ls ss = (refl, ap (bitOr (h .free)) (shl-one 32 inside), refl, ns, ls, ss)
 
 -- the rows that pass t have taken over the leads and the sets of s, and then s is left
 left-as : (h : Held) (t : ℕ → Bool) (s j : ℕ) (r : Moved) (leads₁ sets₁ : List ℕ) {numbers leads sets : List ℕ} → h .free < 2 ^ 32
-    → ((i : ℕ) → i < 32 → getD leads₁ i 0 ≡ row-gains (h .leads) t (theirs (h .free) (h .leads) s) i)
-    → ((w : ℕ) → w < 512 → getD sets₁ w 0 ≡ word-folds (h .sets) t s w)
+    → ((i : ℕ) → i < 32 → getD leads₁ i 0 ≡ gained-row (h .leads) t (theirs (h .free) (h .leads) s) i)
+    → ((w : ℕ) → w < 512 → getD sets₁ w 0 ≡ folded-word (h .sets) t s w)
     → Leaves (lent (h .next) (h .free) (h .numbers) leads₁ sets₁) s j r numbers leads sets → lent (r .next) (r .free) numbers leads sets ≡ left-at h t s
 unfolding left-at number-at leads-at word-at open-at
 left-as h t s j r leads₁ sets₁ fits ls ss l =
     lent-same (l .0) (l .1) (l .3)
     (l .4 ∙ tab-same 32 _ _ (λ i q. ap (λ (x : ℕ). cond (eqb i s) 0 (without x s))
-    (ls i q ∙ ap (λ (m : ℕ). row-gains (h .leads) t (bitAnd (getD (h .leads) s 0) m) i) (others-mask 32 (h .free) fits))))
+    (ls i q ∙ ap (λ (m : ℕ). gained-row (h .leads) t (bitAnd (getD (h .leads) s 0) m) i) (mask-not 32 (h .free) fits))))
     (l .5 ∙ tab-same 512 _ _ (λ w q. ap (λ (x : ℕ). cond (eqb (w / 16) s) 0 x) (ss w q)))
 
 -- s is not among the others that lead to it
@@ -520,14 +440,14 @@ leads-others free leads s e inside =
 -- words that fold by a mask fold by the mask's rule
 folded-by : (sets : List ℕ) (p : ℕ → Bool) (s : ℕ) {from : ℕ} → from ≡ mask-of 32 p → folded sets (bit from) s ≡ folded sets p s
 folded-by sets p s {from} e =
-    tab-same 512 (word-folds sets (bit from) s) (word-folds sets p s)
-    (λ w q. ap (λ (b : Bool). cond (b && leb 8 (w % 16)) (bitOr (getD sets w 0) (bitOr (getD sets (s * 16 + (w % 16 - 8)) 0) (getD sets (s * 16 + w % 16) 0))) (getD sets w 0))
+    tab-same 512 (folded-word sets (bit from) s) (folded-word sets p s)
+    (λ w q. ap (λ (b : Bool). cond (b && leb 8 (w % 16)) (gained-word sets s w) (getD sets w 0))
     (bit-of 32 p e (w / 16) (omega arith)))
 
 -- the words that were loaded tell whether the slot bars abandoning
 abandon-code : (h : Held) (j c : ℕ) {s : ℕ} {words : List ℕ} {is-empty b : Bool} → slot-of h j ≡ some s
-    → words ≡ take 4 (drop (s * 16 + 4) (h .sets)) → is-empty ≡ empty words → not is-empty ≡ b → code-for h an-abandon j c ≡ cond b 4 0
-abandon-code h j c {s} e ew eb y = code-abandon h j c e (altered-law h s ∙ ap (λ (l : List ℕ). not (empty l)) (sym ew) ∙ ap not (sym eb) ∙ y)
+    → Part (h .sets) (s * 16 + 4) words → is-empty ≡ empty words → not is-empty ≡ b → code-for h an-abandon j c ≡ cond b 4 0
+abandon-code h j c {s} e t eb y = code-abandon h j c e (altered-law h s t ∙ ap not (sym eb) ∙ y)
 
 module _ {h : Held} {j c s : ℕ} {r : Moved} (f : Found h j s) where
   pub does-end-granted : {from : ℕ} {leads₁ sets₁ numbers leads sets : List ℕ} → h .free < 2 ^ 32 → from ≡ mask-of 32 (leads-to (h .free) (h .leads) s)
@@ -537,8 +457,8 @@ module _ {h : Held} {j c s : ℕ} {r : Moved} (f : Found h j s) where
   does-end-granted {from} {leads₁} {sets₁} fits ef es el l =
       does-by 0 (code-end h j c (f .first)) (l .2)
       (left-as h t s j r leads₁ sets₁ fits
-      (λ i q. ap (λ (x : List ℕ). getD x i 0) (el ∙ gained-by (h .leads) t gain ef) ∙ getD-tab 32 (row-gains (h .leads) t gain) i 0 q)
-      (λ w q. ap (λ (x : List ℕ). getD x w 0) (es ∙ folded-by (h .sets) t s ef) ∙ getD-tab 512 (word-folds (h .sets) t s) w 0 q)
+      (λ i q. ap (λ (x : List ℕ). getD x i 0) (el ∙ gained-by (h .leads) t gain ef) ∙ getD-tab 32 (gained-row (h .leads) t gain) i 0 q)
+      (λ w q. ap (λ (x : List ℕ). getD x w 0) (es ∙ folded-by (h .sets) t s ef) ∙ getD-tab 512 (folded-word (h .sets) t s) w 0 q)
       l ∙ ap (λ (o : Option ℕ). with-slot o (λ s. ended-at h s) h) (sym (f .first)))
     where
       t : ℕ → Bool
@@ -547,15 +467,15 @@ module _ {h : Held} {j c s : ℕ} {r : Moved} (f : Found h j s) where
       gain : ℕ
       gain = theirs (h .free) (h .leads) s
 
-  module _ {words : List ℕ} {is-empty : Bool} (ew : words ≡ take 4 (drop (s * 16 + 4) (h .sets))) (eb : is-empty ≡ empty words) where
+  module _ {words : List ℕ} {is-empty : Bool} (t : Part (h .sets) (s * 16 + 4) words) (eb : is-empty ≡ empty words) where
     pub does-abandon-written : not is-empty ≡ true → Refused h HasWritten r → Does h an-abandon j c r (h .numbers) (h .leads) (h .sets)
-    does-abandon-written y = refuses 4 (abandon-code h j c (f .first) ew eb y) refl refl
+    does-abandon-written y = refuses 4 (abandon-code h j c (f .first) t eb y) refl refl
 
     pub does-abandon-granted : {numbers leads sets : List ℕ} → not is-empty ≡ false → h .free < 2 ^ 32 → Leaves h s j r numbers leads sets
         → Does h an-abandon j c r numbers leads sets
     unfolding moved abandoned-at job-of
     does-abandon-granted y fits l =
-        does-by 0 (abandon-code h j c (f .first) ew eb y) (l .2)
+        does-by 0 (abandon-code h j c (f .first) t eb y) (l .2)
         (left-as h (λ i. false) s j r (h .leads) (h .sets) fits (λ i q. refl) (λ w q. refl) l
         ∙ ap (λ (o : Option ℕ). with-slot o (λ s. abandoned-at h s) h) (sym (f .first)))
 

@@ -3,7 +3,7 @@
 -- In order: words that code stores one after the other (`written`), four of them (`written-set`) or a row of zeros (`written-blank`); four words that are
 -- taken out (`Part`), changed and stored back, with one mark more (`marked-set`) or joined with two other fours (`gained-set`); a row's past that gains own and
 -- past of another row (`taken-over`), and a loop that does so for every row of a mask (`Folding`). How many words there are is a parameter, m.
--- Loops over the marks of a mask in general are in MaskLaws, and what words say of clashes is in ClashLaws.
+-- Loops over the marks of a mask in general are in the crate marks (MaskLaws), and what words say of clashes is in ClashLaws.
 -- Assumes nothing.
 use mathlib.Core.Path.{_≡_, refl, sym, ap, ap₂, _∙_, subst}
 use mathlib.Core.Logic.{⊎-elim}
@@ -20,8 +20,9 @@ use lib.Seq.{getD-set-same, getD-set-other, getD-take, getD-drop}
 use Rattle.graph.specs.Decide.{Decides, answer, false-is, by-test, eq-test, le-test, lt-test, and-test, same-test, test-true, test-false}
 use Rattle.marks.specs.Marks.{bit, tab}
 use Rattle.marks.specs.MarkLaws.{length-tab, getD-tab, tab-same, lowest-mark}
+use Rattle.marks.specs.MaskLaws.{tab-of, getD-set, Visiting, visit-start, visit-turn, visit-kept, visit-end}
 use Rattle.marks.specs.Words.{with-mark, union}
-use Rattle.arbiter.proofs.MaskLaws.{listed, getD-set, Visiting, visit-start, visit-turn, visit-kept, visit-end}
+use Rattle.arbiter.specs.Rows.{gained-word, folded-word}
 
 -- ---- words stored one after the other
 
@@ -58,7 +59,7 @@ within at w = and-test (le-test at w) (le-test w (at + 3))
 module _ (m : ℕ) (l : List ℕ) (long : length l ≡ m) where
   written-tab : (at : ℕ) (vs : List ℕ) (n : ℕ) → at + n ≤ m
       → written l at vs n ≡ tab m (λ w. cond (leb at w && ltb w (at + n)) (getD vs (w - at) 0) (getD l w 0))
-  written-tab at vs n h = listed (length-written l at vs n ∙ long) (λ w q. getD-written l at vs n w (omega arith))
+  written-tab at vs n h = tab-of (length-written l at vs n ∙ long) (λ w q. getD-written l at vs n w (omega arith))
 
   -- four words, as `store` stores them
   pub written-set : (at : ℕ) (vs : List ℕ) → at + 4 ≤ m
@@ -85,8 +86,8 @@ pub record Part (l : List ℕ) (at : ℕ) (ws : List ℕ) : Type 0 where
 part-at : {l ws : List ℕ} {at : ℕ} (k : ℕ) → Part l at ws → k < 4 → getD ws k 0 ≡ getD l (at + k) 0
 part-at {l} {at} k t q = ap (λ (v : List ℕ). getD v k 0) (t .from) ∙ getD-take 4 (drop at l) k 0 q ∙ getD-drop at l k 0
 
-part-tab : {l ws : List ℕ} {at : ℕ} → Part l at ws → ws ≡ tab 4 (λ k. getD l (at + k) 0)
-part-tab {l} {at} t = listed {f = λ k. getD l (at + k) 0} (t .four) (λ k. part-at k t)
+pub part-tab : {l ws : List ℕ} {at : ℕ} → Part l at ws → ws ≡ tab 4 (λ k. getD l (at + k) 0)
+part-tab {l} {at} t = tab-of {f = λ k. getD l (at + k) 0} (t .four) (λ k. part-at k t)
 
 -- as `load` reads them: at the numeral the table computes to its four elements
 pub part-out : (at : ℕ) (l : List ℕ) → at + 4 ≤ length l → tab 4 (λ k. getD l (at + k) 0) ≡ take 4 (drop at l)
@@ -142,21 +143,13 @@ gained-set {ys} m l to a b tw tu tv ex ey =
 
 -- ---- a row's past gains own and past of the row s
 
--- word w of a row that is past: own and past of s stand at the same place of their half rows
-abbrev pub gained : List ℕ → ℕ → ℕ → ℕ
-gained l s w = three l w (s * 16 + (w % 16 - 8)) (s * 16 + w % 16)
-
--- the rows that p says
-abbrev pub folded : (ℕ → Bool) → List ℕ → ℕ → ℕ → ℕ
-folded p l s w = cond (p (w / 16) && leb 8 (w % 16)) (gained l s w) (getD l w 0)
-
 -- One row: its past reads gain, and then its past writes. The second gain reads no word that the first has changed, whichever row s is.
 pub taken-over : {l₁ l₂ : List ℕ} (m : ℕ) (l : List ℕ) (r s : ℕ) → r * 16 + 16 ≤ m → s * 16 + 16 ≤ m
     → l₁ ≡ tab m (gain l (r * 16 + 8) (s * 16) (s * 16 + 8)) → l₂ ≡ tab m (gain l₁ (r * 16 + 8 + 4) (s * 16 + 4) (s * 16 + 12))
-    → l₂ ≡ tab m (folded (λ k. eqb k r) l s)
+    → l₂ ≡ tab m (folded-word l (λ k. eqb k r) s)
 taken-over {l₁} {l₂} m l r s hr hs e₁ e₂ =
     e₂ ∙ tab-same m _ _ (λ w q.
-    by-test (λ (t : Bool). cond t (new₂ w) (getD l₁ w 0) ≡ folded (λ k. eqb k r) l s w) (within (to + 4) w) (λ i. writes w q (i .0) (i .1))
+    by-test (λ (t : Bool). cond t (new₂ w) (getD l₁ w 0) ≡ folded-word l (λ k. eqb k r) s w) (within (to + 4) w) (λ i. writes w q (i .0) (i .1))
     (λ f. first w q ∙ reads w f))
   where
     to : ℕ
@@ -178,10 +171,10 @@ taken-over {l₁} {l₂} m l r s hr hs e₁ e₂ =
     kept w q f = first w q ∙ ap (λ (t : Bool). cond t (new₁ w) (getD l w 0)) (test-false (within to w) f)
 
     -- the two fours are the past
-    new : (w : ℕ) → to ≤ w → w ≤ to + 7 → gained l s w ≡ folded (λ k. eqb k r) l s w
-    new w h h′ = ap (λ (t : Bool). cond t (gained l s w) (getD l w 0)) (sym (test-true (in-past w) (omega arith)))
+    new : (w : ℕ) → to ≤ w → w ≤ to + 7 → gained-word l s w ≡ folded-word l (λ k. eqb k r) s w
+    new w h h′ = ap (λ (t : Bool). cond t (gained-word l s w) (getD l w 0)) (sym (test-true (in-past w) (omega arith)))
 
-    writes : (w : ℕ) → w < m → to + 4 ≤ w → w ≤ to + 4 + 3 → new₂ w ≡ folded (λ k. eqb k r) l s w
+    writes : (w : ℕ) → w < m → to + 4 ≤ w → w ≤ to + 4 + 3 → new₂ w ≡ folded-word l (λ k. eqb k r) s w
     writes w q h h′ =
         ap₂ bitOr (kept w q (λ i. omega arith))
         (ap₂ bitOr
@@ -189,17 +182,17 @@ taken-over {l₁} {l₂} m l r s hr hs e₁ e₂ =
         (kept (s * 16 + 12 + (w - (to + 4))) (omega arith) (λ i. omega arith) ∙ ap (λ (k : ℕ). getD l k 0) (omega arith)))
         ∙ new w (omega arith) (omega arith)
 
-    reads : (w : ℕ) → ((to + 4 ≤ w) × (w ≤ to + 4 + 3) → ⊥) → cond (leb to w && leb w (to + 3)) (new₁ w) (getD l w 0) ≡ folded (λ k. eqb k r) l s w
+    reads : (w : ℕ) → ((to + 4 ≤ w) × (w ≤ to + 4 + 3) → ⊥) → cond (leb to w && leb w (to + 3)) (new₁ w) (getD l w 0) ≡ folded-word l (λ k. eqb k r) s w
     reads w f =
-        by-test (λ (t : Bool). cond t (new₁ w) (getD l w 0) ≡ folded (λ k. eqb k r) l s w) (within to w)
+        by-test (λ (t : Bool). cond t (new₁ w) (getD l w 0) ≡ folded-word l (λ k. eqb k r) s w) (within to w)
         (λ i. ap₂ (three l w) (omega arith) (omega arith) ∙ new w (omega arith) (omega arith))
-        (λ g. ap (λ (t : Bool). cond t (gained l s w) (getD l w 0))
+        (λ g. ap (λ (t : Bool). cond t (gained-word l s w) (getD l w 0))
         (sym (test-false (in-past w) (λ i. ⊎-elim (λ h. g (omega arith)) (λ h. f (omega arith)) (answer (le-test w (to + 3)))))))
 
 -- Every row of `from`, the lowest first, with those of `todo` left.
 pub record Folding (m from s : ℕ) (old : List ℕ) (todo : ℕ) (l : List ℕ) : Type 0 where
   pub long : length l ≡ m
-  pub rows : Visiting 32 m from (λ w. w / 16) (λ w. cond (leb 8 (w % 16)) (gained old s w) (getD old w 0)) (λ w. getD old w 0) todo (λ w. getD l w 0)
+  pub rows : Visiting 32 m from (λ w. w / 16) (λ w. cond (leb 8 (w % 16)) (gained-word old s w) (getD old w 0)) (λ w. getD old w 0) todo (λ w. getD l w 0)
 
 module _ {m from s : ℕ} {old : List ℕ} where
   pub fold-start : length old ≡ m → from < 2 ^ 32 → Folding m from s old from old
@@ -212,25 +205,25 @@ module _ {m from s : ℕ} {old : List ℕ} where
       false-is out (subst (λ (k : ℕ). T (bit from k)) e (left .inside (trailingZeros 32 todo) (lowest-mark 32 todo (left .fits) ne .there)))
 
   pub fold-turn : {todo : ℕ} {l l′ : List ℕ} → Folding m from s old todo l → (todo ≡ 0 → ⊥) → s * 16 + 16 ≤ m → bit from s ≡ false
-      → l′ ≡ tab m (folded (λ k. eqb k (trailingZeros 32 todo)) l s) → Folding m from s old (bitAnd todo (todo - 1)) l′
+      → l′ ≡ tab m (folded-word l (λ k. eqb k (trailingZeros 32 todo)) s) → Folding m from s old (bitAnd todo (todo - 1)) l′
   fold-turn {todo} {l} {l′} f ne h out e = record { long = ap length e ∙ length-tab m new; rows = visit-turn (f .rows) ne hit miss }
     where
       i : ℕ
       i = trailingZeros 32 todo
 
       new : ℕ → ℕ
-      new = folded (λ k. eqb k i) l s
+      new = folded-word l (λ k. eqb k i) s
 
       at : (w : ℕ) → w < m → getD l′ w 0 ≡ new w
       at w q = ap (λ (v : List ℕ). getD v w 0) e ∙ getD-tab m new w 0 q
 
-      row : (w : ℕ) {b : Bool} → eqb (w / 16) i ≡ b → new w ≡ cond (b && leb 8 (w % 16)) (gained l s w) (getD l w 0)
-      row w = ap (λ (b : Bool). cond (b && leb 8 (w % 16)) (gained l s w) (getD l w 0))
+      row : (w : ℕ) {b : Bool} → eqb (w / 16) i ≡ b → new w ≡ cond (b && leb 8 (w % 16)) (gained-word l s w) (getD l w 0)
+      row w = ap (λ (b : Bool). cond (b && leb 8 (w % 16)) (gained-word l s w) (getD l w 0))
 
       own : (o : ℕ) → o < 16 → getD l (s * 16 + o) 0 ≡ getD old (s * 16 + o) 0
       own o q = visit-kept (f .rows) (s * 16 + o) (omega arith) (ap (bit from) (omega arith) ∙ out)
 
-      hit : (w : ℕ) → w < m → w / 16 ≡ i → getD l w 0 ≡ getD old w 0 → getD l′ w 0 ≡ cond (leb 8 (w % 16)) (gained old s w) (getD old w 0)
+      hit : (w : ℕ) → w < m → w / 16 ≡ i → getD l w 0 ≡ getD old w 0 → getD l′ w 0 ≡ cond (leb 8 (w % 16)) (gained-word old s w) (getD old w 0)
       hit w q r g =
           at w q ∙ row w (test-true (eq-test (w / 16) i) r)
           ∙ ap₂ (cond (leb 8 (w % 16))) (ap₂ bitOr g (ap₂ bitOr (own (w % 16 - 8) (omega arith)) (own (w % 16) (omega arith)))) g
@@ -238,8 +231,8 @@ module _ {m from s : ℕ} {old : List ℕ} where
       miss : (w : ℕ) → w < m → (w / 16 ≡ i → ⊥) → getD l′ w 0 ≡ getD l w 0
       miss w q r = at w q ∙ row w (test-false (eq-test (w / 16) i) r)
 
-  pub fold-end : {todo : ℕ} {l : List ℕ} → Folding m from s old todo l → todo ≡ 0 → l ≡ tab m (folded (bit from) old s)
-  fold-end f e = listed (f .long) (λ w q. visit-end (f .rows) e w q ∙ go (bit from (w / 16)) (leb 8 (w % 16)) (gained old s w) (getD old w 0))
+  pub fold-end : {todo : ℕ} {l : List ℕ} → Folding m from s old todo l → todo ≡ 0 → l ≡ tab m (folded-word old (bit from) s)
+  fold-end f e = tab-of (f .long) (λ w q. visit-end (f .rows) e w q ∙ go (bit from (w / 16)) (leb 8 (w % 16)) (gained-word old s w) (getD old w 0))
     where
       go : (a b : Bool) (x y : ℕ) → cond a (cond b x y) y ≡ cond (a && b) x y
       go true b x y = refl

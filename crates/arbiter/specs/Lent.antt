@@ -1,12 +1,10 @@
--- What the arbiter's contracts say: the state that lent lists make, the request that eight bytes are, the reply that an answer is, and what a step
--- leaves, by the rule of the crate held.
+-- What the arbiter's contracts say: the state that lent lists make, the reply that an answer is, and what a step leaves, by the rule of the crate held.
 -- Assumes nothing.
 use mathlib.Core.Path.{_≡_}
 use mathlib.Core.Bool.{Bool, true, false, cond}
 use mathlib.Core.List.{List, []}
-use Prim.Native.Nat.{ℕ, _+_, _*_}
+use Prim.Native.Nat.{ℕ}
 use lib.Dec.{eqb}
-use lib.ListN.{getD}
 use Rattle.history.specs.Events.{Kind, read, write}
 use Rattle.history.specs.Replies.{Request, Reply, Want, first-of, tests, job-of}
 use Rattle.held.specs.Held.{Held, facts, moved, answer-to, after}
@@ -22,16 +20,6 @@ lent next free numbers leads sets = record { next = next; free = free; numbers =
 -- a state of which only the sets matter
 abbrev pub sets-only : List ℕ → Held
 sets-only sets = lent 0 0 [] [] sets
-
--- the kind, a byte that should be 0, two bytes of cell, four of job, the low byte first
-unfoldable pub request-of : List ℕ → Request
-request-of b =
-    record {
-      kind = getD b 0 0;
-      byte1 = getD b 1 0;
-      cell = getD b 2 0 + getD b 3 0 * 256;
-      job = getD b 4 0 + getD b 5 0 * 256 + getD b 6 0 * 65536 + getD b 7 0 * 16777216;
-    }
 
 -- document 01's code and job number of each answer
 abbrev pub numbered : Answer → Reply

@@ -1,21 +1,20 @@
 // The arbiter: the state, the request, the step, a run of requests, and what C and Rust link. The work is done in place on lent arrays (`step_in_place`);
 // the step by value takes the state apart, lends its arrays and puts it together again.
 ghost use mathlib.Core.Path.{_≡_};
-ghost use mathlib.Core.Bool.{Bool, true, false, not, _&&_, _||_, cond};
-ghost use mathlib.Core.List.{List, [], _++_};
-ghost use Prim.Native.Nat.{ℕ, _+_, _-_, _*_, _/_, _%_, _^_, _≤_, _<_};
-ghost use lib.Bits.{bitOr, bitAnd};
+ghost use mathlib.Core.Bool.{false, _&&_, cond};
+ghost use mathlib.Core.List.{[], _++_};
+ghost use Prim.Native.Nat.{_+_, _-_, _*_, _/_, _%_, _^_, _≤_, _<_};
+ghost use lib.Bits.{bitOr};
 ghost use lib.Count.{trailingZeros};
-ghost use lib.Dec.{T, leb, eqb};
+ghost use lib.Dec.{leb, eqb};
 ghost use lib.ListN.{length, getD, take, drop};
-ghost use Rattle.graph.specs.Lists.{only};
-ghost use Rattle.graph.specs.Reach.{reach};
-ghost use Rattle.marks.specs.Marks.{bit, mask-of, without, tab, upto};
-ghost use Rattle.history.specs.Formats.{bytes-of};
+ghost use Rattle.marks.specs.Marks.{bit, mask-of, tab};
+ghost use Rattle.history.specs.Formats.{bytes-of, request-of};
 ghost use Rattle.history.specs.Replies.{an-open, a-step, an-end, an-abandon};
-ghost use Rattle.held.specs.Held.{fresh-held, touched, answer-to, after};
-ghost use Rattle.arbiter.specs.Lent.{lent, sets-only, request-of, numbered, kind-of, Does, Steps};
+ghost use Rattle.held.specs.Held.{fresh-held, answer-to, after};
+ghost use Rattle.arbiter.specs.Lent.{lent, numbered, kind-of, Does, Steps};
 ghost use Rattle.arbiter.specs.Replay.{replayed, told, packed};
+ghost use Rattle.arbiter.specs.Rows.{holds, leads-to, reaches, met, touches, theirs, clash-word, past-word, put, struck, gained, blanked, folded, marked-own};
 use cells::Cell;
 use cells::CellSet;
 
@@ -82,7 +81,7 @@ pub struct Moved {
 
 // The open slots that hold the number.
 fn holding(free: u32, numbers: &[u32; 32], job: JobNumber) -> u32
-    ensures { λ r. ⌜ r ≡ mask-of 32 (λ i. not (bit free i) && eqb (getD (now (numbers .entry)) i 0) (job .0)) ⌝ }
+    ensures { λ r. ⌜ r ≡ mask-of 32 (holds free (now (numbers .entry)) (job .0)) ⌝ }
 {
     let mut found: u32 = 0;
     let mut i: u32 = 0;
@@ -97,7 +96,7 @@ fn holding(free: u32, numbers: &[u32; 32], job: JobNumber) -> u32
 
 // The lowest open slot that holds the number, or 32. The lowest slot of all that holds it is nearly always open; only where it is not, every number is looked at.
 fn slot_for(free: u32, numbers: &[u32; 32], job: JobNumber) -> u32
-    ensures { λ r. ⌜ r ≡ trailingZeros 32 (mask-of 32 (λ i. not (bit free i) && eqb (getD (now (numbers .entry)) i 0) (job .0))) ⌝ }
+    ensures { λ r. ⌜ r ≡ trailingZeros 32 (mask-of 32 (holds free (now (numbers .entry)) (job .0))) ⌝ }
 {
     let mut i: u32 = 0;
     while i < 32 {
@@ -115,7 +114,7 @@ fn slot_for(free: u32, numbers: &[u32; 32], job: JobNumber) -> u32
 // The other open slots whose rows lead to the slot.
 fn leading(free: u32, leads: &[u32; 32], slot: Slot) -> u32
     requires { ⌜ slot .0 < 32 ⌝ }
-    ensures { λ r. ⌜ r ≡ mask-of 32 (λ i. not (bit free i) && (not (eqb i (slot .0)) && bit (getD (now (leads .entry)) i 0) (slot .0))) ⌝ }
+    ensures { λ r. ⌜ r ≡ mask-of 32 (leads-to free (now (leads .entry)) (slot .0)) ⌝ }
 {
     let mut found: u32 = 0;
     let mut i: u32 = 0;
@@ -129,7 +128,7 @@ fn leading(free: u32, leads: &[u32; 32], slot: Slot) -> u32
 // The open slots reached from the slot by one lead or more, over open slots.
 fn reached(free: u32, leads: &[u32; 32], slot: Slot) -> u32
     requires { ⌜ slot .0 < 32 ⌝ }
-    ensures { λ r. ⌜ r ≡ mask-of 32 (λ x. not (bit free x) && reach (λ i y. bit (getD (now (leads .entry)) i 0) y) (only (λ i. not (bit free i)) (upto 32)) (slot .0) x) ⌝ }
+    ensures { λ r. ⌜ r ≡ mask-of 32 (reaches free (now (leads .entry)) (slot .0)) ⌝ }
 {
     let mut seen = leads[slot.0 as usize] & !free;
     let mut todo = seen;
@@ -148,9 +147,7 @@ fn reached(free: u32, leads: &[u32; 32], slot: Slot) -> u32
 // reads too.
 fn clashing(sets: &[u64; 512], row: Slot, write: bool, place: usize) -> u64
     requires { ⌜ (row .0 < 32) × (place < 4) ⌝ }
-    ensures { λ r. ⌜ r ≡ cond write
-        (bitOr (bitOr (getD (now (sets .entry)) (row .0 * 16 + (4 + place)) 0) (getD (now (sets .entry)) (row .0 * 16 + (12 + place)) 0)) (bitOr (getD (now (sets .entry)) (row .0 * 16 + place) 0) (getD (now (sets .entry)) (row .0 * 16 + (8 + place)) 0)))
-        (bitOr (getD (now (sets .entry)) (row .0 * 16 + (4 + place)) 0) (getD (now (sets .entry)) (row .0 * 16 + (12 + place)) 0)) ⌝ }
+    ensures { λ r. ⌜ r ≡ clash-word (now (sets .entry)) write place (row .0) ⌝ }
 {
     let at = (row.0 as usize) * 16;
     let writes = sets[at + (4 + place)] | sets[at + (12 + place)];
@@ -163,9 +160,7 @@ fn clashing(sets: &[u64; 512], row: Slot, write: bool, place: usize) -> u64
 // The same of the past alone.
 fn clashing_past(sets: &[u64; 512], row: Slot, write: bool, place: usize) -> u64
     requires { ⌜ (row .0 < 32) × (place < 4) ⌝ }
-    ensures { λ r. ⌜ r ≡ cond write
-        (bitOr (getD (now (sets .entry)) (row .0 * 16 + (12 + place)) 0) (getD (now (sets .entry)) (row .0 * 16 + (8 + place)) 0))
-        (getD (now (sets .entry)) (row .0 * 16 + (12 + place)) 0) ⌝ }
+    ensures { λ r. ⌜ r ≡ past-word (now (sets .entry)) write place (row .0) ⌝ }
 {
     let at = (row.0 as usize) * 16;
     if write {
@@ -176,8 +171,8 @@ fn clashing_past(sets: &[u64; 512], row: Slot, write: bool, place: usize) -> u64
 
 // The rows below `to` that clash with a step on the cell, own and past together, from those below `from`. Slot 32 is no row, so that no row is the asking one.
 fn clashing_rows(sets: &[u64; 512], below: u32, from: u32, to: u32, write: bool, cell: Cell) -> u32
-    requires { ⌜ (from ≤ to) × (to ≤ 32) × (below ≡ mask-of from (λ i. touched (sets-only (now sets)) (kind-of write) 32 (cell .0) i)) ⌝ }
-    ensures { λ r. ⌜ r ≡ mask-of to (λ i. touched (sets-only (now (sets .entry))) (kind-of write) 32 (cell .0) i) ⌝ }
+    requires { ⌜ (from ≤ to) × (to ≤ 32) × (below ≡ mask-of from (met (now sets) (kind-of write) (cell .0))) ⌝ }
+    ensures { λ r. ⌜ r ≡ mask-of to (met (now (sets .entry)) (kind-of write) (cell .0)) ⌝ }
 {
     let place = cell.place();
     let mark = cell.mark();
@@ -194,7 +189,7 @@ fn clashing_rows(sets: &[u64; 512], below: u32, from: u32, to: u32, write: bool,
 
 // Those of the slots that clash so. Slots are taken from the lowest up, so eight rows at a time are looked at, as far as the slots go.
 fn clashing_among(slots: u32, sets: &[u64; 512], write: bool, cell: Cell) -> u32
-    ensures { λ r. ⌜ r ≡ mask-of 32 (λ i. bit slots i && touched (sets-only (now (sets .entry))) (kind-of write) 32 (cell .0) i) ⌝ }
+    ensures { λ r. ⌜ r ≡ mask-of 32 (λ i. bit slots i && met (now (sets .entry)) (kind-of write) (cell .0) i) ⌝ }
 {
     let eight = clashing_rows(sets, 0, 0, 8, write, cell);
     if slots < 256 {
@@ -214,7 +209,7 @@ fn clashing_among(slots: u32, sets: &[u64; 512], write: bool, cell: Cell) -> u32
 // The open slots that come to lead to the asking slot, which is open, at its step.
 fn touching(free: u32, sets: &[u64; 512], slot: Slot, write: bool, cell: Cell) -> u32
     requires { ⌜ (slot .0 < 32) × (bit free (slot .0) ≡ false) ⌝ }
-    ensures { λ r. ⌜ r ≡ mask-of 32 (λ i. not (bit free i) && touched (sets-only (now (sets .entry))) (kind-of write) (slot .0) (cell .0) i) ⌝ }
+    ensures { λ r. ⌜ r ≡ mask-of 32 (touches free (now (sets .entry)) (kind-of write) (slot .0) (cell .0)) ⌝ }
 {
     let others = !free & !(1u32 << slot.0);
     let mut found = clashing_among(others, sets, write, cell);
@@ -229,7 +224,7 @@ fn touching(free: u32, sets: &[u64; 512], slot: Slot, write: bool, cell: Cell) -
 // The slots of the mask come to lead to the slot.
 fn lead_to(leads: &mut [u32; 32], from: u32, slot: Slot)
     requires { ⌜ slot .0 < 32 ⌝ }
-    ensures { λ _. ⌜ now (leads .exit) ≡ tab 32 (λ i. cond (bit from i) (bitOr (getD (now (leads .entry)) i 0) (2 ^ (slot .0))) (getD (now (leads .entry)) i 0)) ⌝ }
+    ensures { λ _. ⌜ now (leads .exit) ≡ gained (now (leads .entry)) (bit from) (2 ^ (slot .0)) ⌝ }
 {
     let rows = &mut leads[..];
     let mut todo = from;
@@ -243,7 +238,7 @@ fn lead_to(leads: &mut [u32; 32], from: u32, slot: Slot)
 // No row leads to the slot, and its own row leads nowhere.
 fn strike(leads: &mut [u32; 32], slot: Slot)
     requires { ⌜ slot .0 < 32 ⌝ }
-    ensures { λ _. ⌜ now (leads .exit) ≡ tab 32 (λ i. cond (eqb i (slot .0)) 0 (without (getD (now (leads .entry)) i 0) (slot .0))) ⌝ }
+    ensures { λ _. ⌜ now (leads .exit) ≡ struck (now (leads .entry)) (slot .0) ⌝ }
 {
     let rows = &mut leads[..];
     let others = !(1u32 << slot.0);
@@ -258,7 +253,7 @@ fn strike(leads: &mut [u32; 32], slot: Slot)
 // The slot's sets are empty.
 fn blank(sets: &mut [u64; 512], slot: Slot)
     requires { ⌜ slot .0 < 32 ⌝ }
-    ensures { λ _. ⌜ now (sets .exit) ≡ tab 512 (λ w. cond (eqb (w / 16) (slot .0)) 0 (getD (now (sets .entry)) w 0)) ⌝ }
+    ensures { λ _. ⌜ now (sets .exit) ≡ blanked (now (sets .entry)) (slot .0) ⌝ }
 {
     let all = &mut sets[..];
     let at = (slot.0 as usize) * 16;
@@ -295,7 +290,7 @@ fn store(sets: &mut [u64; 512], at: usize, set: CellSet)
 // The slot's own reads or writes gain the cell.
 fn mark_own(sets: &mut [u64; 512], slot: Slot, write: bool, cell: Cell)
     requires { ⌜ slot .0 < 32 ⌝ }
-    ensures { λ _. ⌜ now (sets .exit) ≡ tab 512 (λ w. cond (eqb w (slot .0 * 16 + (cond write 4 0 + cell .0 / 64))) (bitOr (getD (now (sets .entry)) w 0) (2 ^ (cell .0 % 64))) (getD (now (sets .entry)) w 0)) ⌝ }
+    ensures { λ _. ⌜ now (sets .exit) ≡ marked-own (now (sets .entry)) (slot .0) (cond write 4 0) (cell .0) ⌝ }
 {
     let mut at = (slot.0 as usize) * 16;
     if write {
@@ -308,9 +303,7 @@ fn mark_own(sets: &mut [u64; 512], slot: Slot, write: bool, cell: Cell)
 // A row's past gains own and past of the slot, another one.
 fn take_over(sets: &mut [u64; 512], row: Slot, slot: Slot)
     requires { ⌜ (row .0 < 32) × (slot .0 < 32) × (row .0 ≡ slot .0 → ⊥) ⌝ }
-    ensures { λ _. ⌜ now (sets .exit) ≡ tab 512 (λ w. cond (eqb (w / 16) (row .0) && leb 8 (w % 16))
-        (bitOr (getD (now (sets .entry)) w 0) (bitOr (getD (now (sets .entry)) (slot .0 * 16 + (w % 16 - 8)) 0) (getD (now (sets .entry)) (slot .0 * 16 + w % 16) 0)))
-        (getD (now (sets .entry)) w 0)) ⌝ }
+    ensures { λ _. ⌜ now (sets .exit) ≡ folded (now (sets .entry)) (λ k. eqb k (row .0)) (slot .0) ⌝ }
 {
     let to = (row.0 as usize) * 16 + 8;
     let from = (slot.0 as usize) * 16;
@@ -323,9 +316,7 @@ fn take_over(sets: &mut [u64; 512], row: Slot, slot: Slot)
 // Every slot of the mask, the slot not among them, takes over the slot's sets.
 fn fold_sets(sets: &mut [u64; 512], from: u32, slot: Slot)
     requires { ⌜ (slot .0 < 32) × (bit from (slot .0) ≡ false) ⌝ }
-    ensures { λ _. ⌜ now (sets .exit) ≡ tab 512 (λ w. cond (bit from (w / 16) && leb 8 (w % 16))
-        (bitOr (getD (now (sets .entry)) w 0) (bitOr (getD (now (sets .entry)) (slot .0 * 16 + (w % 16 - 8)) 0) (getD (now (sets .entry)) (slot .0 * 16 + w % 16) 0)))
-        (getD (now (sets .entry)) w 0)) ⌝ }
+    ensures { λ _. ⌜ now (sets .exit) ≡ folded (now (sets .entry)) (bit from) (slot .0) ⌝ }
 {
     // For the proof alone: with no slot in the mask, too, the words are 512.
     let words = &sets[..];
@@ -340,7 +331,7 @@ fn fold_sets(sets: &mut [u64; 512], from: u32, slot: Slot)
 // Every slot of the mask, the slot not among them, takes over the slot's leads to open slots.
 fn fold_leads(free: u32, leads: &mut [u32; 32], from: u32, slot: Slot)
     requires { ⌜ (slot .0 < 32) × (bit from (slot .0) ≡ false) ⌝ }
-    ensures { λ _. ⌜ now (leads .exit) ≡ tab 32 (λ i. cond (bit from i) (bitOr (getD (now (leads .entry)) i 0) (bitAnd (getD (now (leads .entry)) (slot .0) 0) (2 ^ 32 - 1 - free))) (getD (now (leads .entry)) i 0)) ⌝ }
+    ensures { λ _. ⌜ now (leads .exit) ≡ gained (now (leads .entry)) (bit from) (theirs free (now (leads .entry)) (slot .0)) ⌝ }
 {
     let rows = &mut leads[..];
     let theirs = rows[slot.0 as usize] & !free;
@@ -441,9 +432,9 @@ fn leave(
 ) -> Moved
     requires { ⌜ slot .0 < 32 ⌝ }
     ensures { λ r. ⌜ (r .next ≡ next) × (r .free ≡ bitOr free (2 ^ (slot .0))) × (numbered (r .answer) ≡ record { code = 0; job = job .0 })
-        × (now (numbers .exit) ≡ tab 32 (λ i. cond (eqb i (slot .0)) 0 (getD (now (numbers .entry)) i 0)))
-        × (now (leads .exit) ≡ tab 32 (λ i. cond (eqb i (slot .0)) 0 (without (getD (now (leads .entry)) i 0) (slot .0))))
-        × (now (sets .exit) ≡ tab 512 (λ w. cond (eqb (w / 16) (slot .0)) 0 (getD (now (sets .entry)) w 0))) ⌝ }
+        × (now (numbers .exit) ≡ put (now (numbers .entry)) (slot .0) 0)
+        × (now (leads .exit) ≡ struck (now (leads .entry)) (slot .0))
+        × (now (sets .exit) ≡ blanked (now (sets .entry)) (slot .0)) ⌝ }
 {
     let rows = &mut numbers[..];
     rows[slot.0 as usize] = 0;
@@ -705,6 +696,35 @@ pub extern "C" fn reedtangle_replay(
     let r = replay(JobNumber(first), requests, answers);
     *written = r.place() as u64;
     r.code()
+}
+
+// The same with the state handed on by value from step to step, for hosts that want to see what that costs.
+#[no_mangle]
+pub extern "C" fn reedtangle_replay_by_value(
+    first: u32,
+    requests: &[u8],
+    answers: &mut [u8],
+    written: &mut u64,
+) -> u32
+    ensures { λ r. ⌜ record { code = r; place = now (written .exit); bytes = now (answers .exit) } ≡ replayed first (now (requests .entry)) (now (answers .entry)) ⌝ }
+{
+    let count = requests.len() / 8;
+    if answers.len() / 8 < count {
+        *written = 0;
+        return 24;
+    }
+    let mut state = State::fresh(JobNumber(first));
+    let mut i: usize = 0;
+    while i < count {
+        let stepped = state.step(request_at(requests, i * 8));
+        state = stepped.state;
+        let answer = stepped.answer;
+        put_number(answers, i * 8, answer.code());
+        put_number(answers, i * 8 + 4, answer.job().0);
+        i += 1;
+    }
+    *written = (count * 8) as u64;
+    0
 }
 
 // One request on the state that the host keeps: code times 2^32 plus job.

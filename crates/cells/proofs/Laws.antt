@@ -1,29 +1,18 @@
--- What code writes for sets of marks in words, for any width and any number of words: a shifted 1, the test of a mark, an or of all words
--- against 0; and a list that is as long as an array, written out.
+-- What code writes for sets of marks in words, for any number of words: an or of all words against 0; and a list that is as long as an array, written out.
+-- What it writes for one mark is in the crate marks (MarkLaws).
 -- Assumes nothing.
 use mathlib.Core.Path.{_≡_, refl, sym, ap, ap₂, _∙_}
-use mathlib.Core.Bool.{Bool, true, false, not, _&&_, _||_, Bool·not-not, and-assoc, and-true}
+use mathlib.Core.Bool.{Bool, true, false, not, _&&_, _||_, and-assoc, and-true}
 use mathlib.Core.List.{List, [], _∷_}
-use Prim.Native.Nat.{ℕ, _*_, _/_, _%_, _^_, _<_}
-use native.Mathlib.Nat.{one-mul}
+use Prim.Native.Nat.{ℕ}
 use native.Mathlib.Omega.{arith}
 use lib.Bits.{bitOr, bitAnd, or-add-and, and-le-l, and-le-r}
-use lib.Dec.{eqb, lit<}
+use lib.Dec.{eqb}
 use lib.ListN.{length, getD}
-use lib.Pow.{shl-exact}
 use Rattle.graph.specs.Decide.{eq-test, and-test, same-test}
-use Rattle.marks.specs.Marks.{bit, tab}
-use Rattle.marks.specs.MarkLaws.{tab-getD, and-mark}
-use Rattle.marks.specs.Words.{marked, overlap, empty}
-
--- 1 << k, at a width above k, is 2 ^ k: nothing is shifted out
-pub shl-one : (w k : ℕ) → k < w → 1 * 2 ^ k % 2 ^ w ≡ 2 ^ k
-shl-one w k h = shl-exact 1 k w (lit< tt) (omega arith) ∙ one-mul (2 ^ k)
-
--- the test of a mark
-pub tests-mark : (w : ℕ) (ws : List ℕ) (c : ℕ) → not (eqb (bitAnd (getD ws (c / w) 0) (2 ^ (c % w))) 0) ≡ marked w ws c
-unfolding marked
-tests-mark w ws c = let n = getD ws (c / w) 0 in ap not (and-mark n (c % w)) ∙ Bool·not-not (bit n (c % w))
+use Rattle.marks.specs.Marks.{tab}
+use Rattle.marks.specs.MarkLaws.{tab-getD}
+use Rattle.marks.specs.Words.{overlap, empty}
 
 -- a list of n words, as an array's is, written out: at a numeral n the table computes to its n elements
 pub written-out : (n : ℕ) (ws : List ℕ) → length ws ≡ n → tab n (λ i. getD ws i 0) ≡ ws

@@ -1,9 +1,9 @@
 -- A Bool and the proposition that it decides, joined by a record so that each can be inferred from the other; and the
 -- tests that are made of others: and, or, not, equal, below, some member, every member.
 -- Assumes nothing.
-use mathlib.Core.Path.{_≡_, refl, sym, subst}
+use mathlib.Core.Path.{_≡_, refl, sym, ap₂, subst}
 use mathlib.Core.Logic.{_⊎_, inl, inr}
-use mathlib.Core.Bool.{Bool, true, false, not, _&&_, _||_}
+use mathlib.Core.Bool.{Bool, true, false, not, _&&_, _||_, cond}
 use mathlib.Core.List.{List, [], _∷_, List·Memᴰ, List·Memᴰ·head, List·Memᴰ·tail}
 use Prim.Native.Nat.{ℕ, _≤_, _<_}
 use lib.Dec.{T, leb, ltb, eqb, leb→le, le→leb, ltb→lt, lt→ltb, eqb→eq, eqb-refl, T-not, not-T}
@@ -58,6 +58,10 @@ pub T-and : (a b : Bool) → T a → T b → T (a && b)
 T-and true b s t = t
 T-and false b s t = s
 
+pub T-and-left : (a b : Bool) → T (a && b) → T a
+T-and-left true b t = tt
+T-and-left false b t = t
+
 pub T-or-left : (a b : Bool) → T a → T (a || b)
 T-or-left true b s = tt
 T-or-left false b s = absurd s
@@ -86,6 +90,17 @@ by-test {A} {b} P d f g = go b (d .holds) (d .shows)
     go : (c : Bool) → (T c → A) → (A → T c) → P c
     go true h s = f (h tt)
     go false h s = g s
+
+-- what holds of both of two values holds of the one that is chosen
+pub chosen : {X : Type 0} (P : X → Type 0) (b : Bool) {x y : X} → P x → P y → P (cond b x y)
+chosen P true p q = p
+chosen P false p q = q
+
+pub cond-below : (b : Bool) {x y n : ℕ} → x < n → y < n → cond b x y < n
+cond-below b {n = n} p q = chosen (λ (k : ℕ). k < n) b p q
+
+pub cond-zero : (b : Bool) {x y : ℕ} → x ≡ 0 → y ≡ 0 → cond b x y ≡ 0
+cond-zero b p q = chosen (λ (k : ℕ). k ≡ 0) b p q
 
 -- what a test comes out as, from the proposition
 pub test-true : {A : Type 0} {a : Bool} → Decides a A → A → a ≡ true
@@ -147,3 +162,8 @@ module _ {X : Type 0} {P : X → Type 0} {p : X → Bool} (d : (x : X) → Decid
 
   pub every-test : (l : List X) → Decides (every-of p l) ((x : X) → List·Memᴰ x l → P x)
   every-test l = record { holds = λ t x m. every-holds m t; shows = every-shows l }
+
+-- tests that agree on the members come out the same for a list
+pub some-same : {X : Type 0} (p q : X → Bool) (l : List X) → ((x : X) → List·Memᴰ x l → p x ≡ q x) → some-of p l ≡ some-of q l
+some-same p q [] h = refl
+some-same p q (x ∷ l) h = ap₂ (λ (a b : Bool). a || b) (h x (List·Memᴰ·head refl)) (some-same p q l (λ y m. h y (List·Memᴰ·tail m)))

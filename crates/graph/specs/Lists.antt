@@ -7,8 +7,9 @@ use mathlib.Core.Path.{_≡_, refl, sym, ap, _∙_, subst}
 use mathlib.Core.Logic.{_⊎_, inl, inr, ⊎-elim}
 use mathlib.Core.Bool.{Bool, true, false, not, _&&_, cond}
 use mathlib.Core.List.{List, [], _∷_, _++_, List·Memᴰ, List·Memᴰ·head, List·Memᴰ·tail, List·Memᴰ·not-nil, List·Memᴰ·cases-cons, List·Memᴰ·append-cases, Memᴰ·append-left, Memᴰ·append-right, Memᴰ·cast}
-use Prim.Native.Nat.{ℕ, suc, _≤_, _<_, zero-le, suc-le-suc}
+use Prim.Native.Nat.{ℕ, suc, _+_, _≤_, _<_, zero-le, suc-le-suc}
 use native.Mathlib.Nat.{le-trans, le-antisymm, le-step}
+use native.Mathlib.Omega.{arith}
 use lib.Dec.{T, eqb}
 use lib.ListN.{length}
 use Rattle.graph.specs.Decide.{Decides, eq-test, not-test, is-true, is-false, some-of, some-test}
@@ -82,6 +83,11 @@ module _ {X : Type 0} where
       ap (λ (b : Bool). cond b (x ∷ only p l) (only p l)) (h x here)
       ∙ ap (λ (r : List X). cond (q x) (x ∷ r) r) (only-same p q l (λ y m. h y (later m)))
 
+  -- where every member passes, all are kept
+  pub only-all : (p : X → Bool) (l : List X) → ((x : X) → x ∈ l → T (p x)) → only p l ≡ l
+  only-all p [] h = refl
+  only-all p (x ∷ l) h = only-yes p x l (is-true (h x here)) ∙ ap (λ (r : List X). x ∷ r) (only-all p l (λ y m. h y (later m)))
+
   -- one test after another is both at once
   pub only-only : (p q : X → Bool) (l : List X) → only p (only q l) ≡ only (λ x. q x && p x) l
   only-only p q [] = refl
@@ -99,6 +105,16 @@ module _ {X : Type 0} where
       go : (b : Bool) → length (only p l) ≤ length l → length (cond b (x ∷ only p l) (only p l)) ≤ suc (length l)
       go true h = suc-le-suc h
       go false h = le-step h
+
+  -- every member passes a test or its opposite
+  pub only-both : (p : X → Bool) (l : List X) → length (only p l) + length (only (λ x. not (p x)) l) ≡ length l
+  only-both p [] = refl
+  only-both p (x ∷ l) = go (p x) (only-both p l)
+    where
+      go : (b : Bool) → length (only p l) + length (only (λ x. not (p x)) l) ≡ length l
+          → length (cond b (x ∷ only p l) (only p l)) + length (cond (not b) (x ∷ only (λ x. not (p x)) l) (only (λ x. not (p x)) l)) ≡ suc (length l)
+      go true e = omega arith
+      go false e = omega arith
 
 -- ---- one before another
 
@@ -207,6 +223,10 @@ module _ {X : Type 0} where
   once-transitive (more f o) (first e m) s = ⊎-elim (λ r. absurd (f (Memᴰ·cast (sym (r .0)) m))) (λ r. first e (before-right r)) (before-cons s)
   once-transitive (more f o) (after r) s = ⊎-elim (λ q. absurd (f (Memᴰ·cast (sym (q .0)) (before-right r)))) (λ q. after (once-transitive o r q)) (before-cons s)
 
+  -- what a test keeps stands once where all stood once
+  pub once-only : (p : X → Bool) {l : List X} → Once l → Once (only p l)
+  once-only p {l} o = once-if (only p l) (λ x r. once-irreflexive o (before-from-only p l r))
+
 -- ---- numbers struck out
 
 unfoldable pub strike : ℕ → List ℕ → List ℕ
@@ -230,6 +250,21 @@ strike-shorter {j} (List·Memᴰ·tail {x = y} {xs = l} m) = go (not (eqb y j)) 
     go : (b : Bool) → length (only (λ i. not (eqb i j)) l) < length l → length (cond b (y ∷ only (λ i. not (eqb i j)) l) (only (λ i. not (eqb i j)) l)) < suc (length l)
     go true h = suc-le-suc h
     go false h = le-step h
+
+-- a further test that leaves a number out strikes it
+pub only-strike : (l : List ℕ) (p q : ℕ → Bool) (s : ℕ) → ((i : ℕ) → i ∈ l → p i ≡ q i && not (eqb i s)) → only p l ≡ strike s (only q l)
+unfolding strike
+only-strike l p q s h = only-same p (λ i. q i && not (eqb i s)) l h ∙ sym (only-only (λ i. not (eqb i s)) q l)
+
+-- to strike out a member of a list that has every member once makes it shorter by one
+pub strike-once : {j : ℕ} {l : List ℕ} → Once l → j ∈ l → suc (length (strike j l)) ≡ length l
+unfolding strike
+strike-once {j} (more {x = x} {l = l} f o) (List·Memᴰ·head e) =
+    let p : ℕ → Bool = λ i. not (eqb i j) in
+    ap (λ (r : List ℕ). suc (length r))
+    (only-no p x l (is-false (λ t. not-test (eq-test x j) .holds t (sym e))) ∙ only-all p l (λ y m. not-test (eq-test y j) .shows (λ q. f (Memᴰ·cast (sym (q ∙ e)) m))))
+strike-once {j} (more {x = x} {l = l} f o) (List·Memᴰ·tail m) =
+    ap (λ (r : List ℕ). suc (length r)) (only-yes (λ i. not (eqb i j)) x l (is-true (not-test (eq-test x j) .shows (λ e. f (Memᴰ·cast e m))))) ∙ ap suc (strike-once o m)
 
 -- a list with every member once is no longer than one that has its members
 pub once-le : {l k : List ℕ} → Once l → ((x : ℕ) → x ∈ l → x ∈ k) → length l ≤ length k

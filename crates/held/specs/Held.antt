@@ -17,6 +17,7 @@ use Rattle.graph.specs.Decide.{some-of}
 use Rattle.graph.specs.Lists.{only}
 use Rattle.graph.specs.Reach.{reach}
 use Rattle.marks.specs.Marks.{bit, mask-of, without, tab, upto}
+use Rattle.marks.specs.Words.{empty}
 use Rattle.history.specs.Events.{Kind, read, write, kinds, alters}
 use Rattle.history.specs.Replies.{most-open, Request, Reply, Want, an-open, a-step, an-end, an-abandon, nothing, want, Facts, code-of, reply-of}
 use Rattle.history.specs.Memory.{meets}
@@ -79,7 +80,10 @@ abbrev pub set-place : Kind → ℕ
 set-place read = 0
 set-place write = set-words
 
--- is the cell in the set that begins at word o of row i?
+-- the set that begins at word o of row i, and is the cell in it?
+abbrev pub set-at : Held → ℕ → ℕ → List ℕ
+set-at h i o = tab set-words (λ w. word-at h i (o + w))
+
 unfoldable pub cell-at : Held → ℕ → ℕ → ℕ → Bool
 cell-at h i o c = bit (word-at h i (o + c / word-marks)) (c % word-marks)
 
@@ -116,9 +120,9 @@ touched h k s c i = (not (eqb i s) && meets (own-at h i) k c) || meets (past-at 
 unfoldable pub chain-back : Held → Kind → ℕ → ℕ → Bool
 chain-back h k s c = reach (λ i x. bit (leads-at h i) x || (eqb x s && touched h k s c i)) (open-slots h) s s
 
--- a word that is not 0 in a set that bars abandoning
+-- a set that bars abandoning is not empty
 unfoldable pub altered : Held → ℕ → Bool
-altered h s = some-of (λ k. alters k && some-of (λ w. not (eqb (word-at h s (set-place k + w)) 0)) (upto set-words)) kinds
+altered h s = some-of (λ k. alters k && not (empty (set-at h s (set-place k)))) kinds
 
 unfoldable pub facts : Held → Facts
 facts h =
@@ -173,8 +177,11 @@ left-at h t s =
     }
 
 -- an end: every other open row that leads to s takes over
+abbrev pub takes-over : Held → ℕ → ℕ → Bool
+takes-over h s i = open-at h i && (not (eqb i s) && bit (leads-at h i) s)
+
 unfoldable pub ended-at : Held → ℕ → Held
-ended-at h s = left-at h (λ i. open-at h i && (not (eqb i s) && bit (leads-at h i) s)) s
+ended-at h s = left-at h (takes-over h s) s
 
 -- an abandon: none does
 unfoldable pub abandoned-at : Held → ℕ → Held

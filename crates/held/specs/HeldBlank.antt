@@ -5,23 +5,23 @@
 use mathlib.Core.Path.{_≡_, refl, sym, ap, _∙_, subst}
 use mathlib.Core.Logic.{⊎-elim}
 use mathlib.Core.Bool.{Bool, true, false, not, _&&_, _||_, cond}
-use mathlib.Core.List.{List}
-use Prim.Native.Nat.{ℕ, _+_, _-_, _*_, _/_, _%_, _^_, _≤_, _<_}
+use mathlib.Core.List.{List, [], _∷_, List·Memᴰ·cases-cons}
+use Prim.Native.Nat.{ℕ, _+_, _*_, _^_, _≤_, _<_}
 use native.Mathlib.Omega.{arith}
-use lib.Bits.{bitOr, or-lt, and-lt}
-use lib.Dec.{T, leb, eqb, eqb-refl}
+use lib.Bits.{or-lt, and-lt}
+use lib.Dec.{T, leb, eqb}
 use lib.ListN.{length}
 use lib.Pow.{pow-lt}
-use Rattle.graph.specs.Decide.{not-test, test-false, eq-test, answer, T-and, is-false, false-is}
-use Rattle.marks.specs.Marks.{bit, mask-of}
-use Rattle.history.specs.Events.{Kind, read, write}
+use Rattle.graph.specs.Decide.{not-test, test-true, test-false, eq-test, answer, T-and, is-false, false-is, chosen, cond-below, cond-zero}
+use Rattle.graph.specs.Lists.{_∈_, here, only, only-keeps, only-from, only-both, Before, before-from-only}
+use Rattle.marks.specs.Marks.{bit, mask-of, upto}
+use Rattle.marks.specs.MarkLaws.{length-tab, upto-has, upto-from, upto-rises, bit-zero, bit-pow, or-unmarked, and-unmarked, without-below, without-zero, without-struck, without-unmarked, mask-lt}
+use Rattle.history.specs.Events.{Kind}
 use Rattle.history.specs.Replies.{cells, most-open, numbers, Request, Want, an-open, want, first-of, tests, code-of}
 use Rattle.history.specs.Granted.{below-bound, passed}
-use Rattle.held.specs.Held.{Held, word-marks, row-words, past-place, all-words, fresh-held, number-at, leads-at, word-at, open-at, open-slots, set-place, touched, first-in, facts, opened-at, stepped-at, left-at, with-slot, free-slot, moved, after, after-all}
-use Rattle.marks.specs.MarkLaws.{length-tab, bit-zero, bit-pow, mask-lt}
-use Rattle.held.specs.MoreMarks.{T-left, or-unmarked, and-unmarked, without-unmarked, without-struck, without-zero, without-below, cond-first, cond-second, cond-below, cond-zero, cond-unmarked, LowestOf, lowest-passing}
-use Rattle.held.specs.HeldLaws.{opened-open-at, left-open-at}
-use Rattle.held.specs.HeldMoves.{read-tab, nth-word, opened-word, stepped-word, left-word, number-opened, leads-opened, word-opened, leads-stepped, word-stepped, number-left, leads-left, word-left, Moves, kept-after, kept-after-all}
+use Rattle.held.specs.Held.{Held, row-words, past-place, all-words, fresh-held, number-at, leads-at, word-at, open-at, open-slots, touched, first-in, facts, opened-at, stepped-at, left-at, with-slot, free-slot, moved, after, after-all}
+use Rattle.held.specs.HeldMoves.{own-word, read-tab, number-opened, leads-opened, leads-stepped, number-left, leads-left, row-opened, row-stepped, row-left, Fits, fresh-fits, opened-fits, stepped-fits, left-fits, Moves, kept-after, kept-after-all}
+use Rattle.held.specs.HeldLaws.{own-inside, opened-open-at, left-open-at}
 
 -- ---- ranges
 
@@ -34,16 +34,11 @@ pub record Ranges (h : Held) : Type 0 where
   pub word-count : length (h .sets) ≡ all-words
   pub number : (i : ℕ) → i < most-open → number-at h i < numbers
   pub leads : (i : ℕ) → i < most-open → leads-at h i < 2 ^ most-open
-  pub word : (w : ℕ) → w < all-words → nth-word h w < 2 ^ word-marks
+  pub words : Fits h
 
 -- a bound carried over an equation
 below-as : {x y n : ℕ} → x ≡ y → y < n → x < n
 below-as e q = omega arith
-
--- a word of row i
-pub word-below : {h : Held} → Ranges h → (i o : ℕ) → i < most-open → o < row-words → word-at h i o < 2 ^ word-marks
-unfolding word-at
-word-below r i o p q = r .word (i * row-words + o) (omega arith)
 
 module _ {h : Held} (r : Ranges h) (s : ℕ) (q : s < most-open) where
   -- each move keeps to them
@@ -55,10 +50,10 @@ module _ {h : Held} (r : Ranges h) (s : ℕ) (q : s < most-open) where
         free = without-below (h .free) s most-open (r .free);
         number-count = refl;
         leads-count = refl;
-        word-count = length-tab all-words (opened-word h s);
+        word-count = refl;
         number = λ i p. below-as (number-opened h s i p) (cond-below (eqb i s) small (r .number i p));
         leads = λ i p. below-as (leads-opened h s i p) (cond-below (eqb i s) (omega arith) (without-below (leads-at h i) s most-open (r .leads i p)));
-        word = λ w p. below-as (word-opened h s w p) (cond-below (eqb (w / row-words) s) (omega arith) (r .word w p));
+        words = opened-fits (r .words) s;
       }
 
   ranges-stepped : (k : Kind) (c : ℕ) → Ranges (stepped-at h k s c)
@@ -69,15 +64,12 @@ module _ {h : Held} (r : Ranges h) (s : ℕ) (q : s < most-open) where
         free = r .free;
         number-count = r .number-count;
         leads-count = refl;
-        word-count = length-tab all-words (λ w. stepped-word h s w k c);
+        word-count = refl;
         number = r .number;
         leads = λ i p.
             below-as (leads-stepped h s k c i p)
             (cond-below (open-at h i && touched h k s c i) (or-lt most-open (leads-at h i) (2 ^ s) (r .leads i p) (pow-lt q)) (r .leads i p));
-        word = λ w p.
-            below-as (word-stepped h s k c w p)
-            (cond-below (eqb w (s * row-words + (set-place k + c / word-marks)))
-            (or-lt word-marks (nth-word h w) (2 ^ (c % word-marks)) (r .word w p) (pow-lt {j = word-marks} (omega arith))) (r .word w p));
+        words = stepped-fits (r .words) s k c;
       }
 
   ranges-left : (t : ℕ → Bool) → Ranges (left-at h t s)
@@ -88,19 +80,14 @@ module _ {h : Held} (r : Ranges h) (s : ℕ) (q : s < most-open) where
         free = or-lt most-open (h .free) (2 ^ s) (r .free) (pow-lt q);
         number-count = refl;
         leads-count = refl;
-        word-count = length-tab all-words (λ w. left-word h s w t);
+        word-count = refl;
         number = λ i p. below-as (number-left h s t i p) (cond-below (eqb i s) (omega arith) (r .number i p));
         leads = λ i p.
             let handed = and-lt most-open (leads-at h s) (mask-of most-open (open-at h)) (r .leads s q) (mask-lt most-open (open-at h)) in
             below-as (leads-left h s t i p)
             (cond-below (eqb i s) (omega arith)
             (without-below _ s most-open (cond-below (t i) (or-lt most-open (leads-at h i) _ (r .leads i p) handed) (r .leads i p))));
-        word = λ w p.
-            let o = w % row-words in
-            let handed = or-lt word-marks _ _ (word-below r s (o - past-place) q (omega arith)) (word-below r s o q (omega arith)) in
-            below-as (word-left h s t w p)
-            (cond-below (eqb (w / row-words) s) (omega arith)
-            (cond-below (t (w / row-words) && leb past-place o) (or-lt word-marks (nth-word h w) _ (r .word w p) handed) (r .word w p)));
+        words = left-fits (r .words) s q t;
       }
 
 ranges-moves : {h : Held} → Ranges h → Moves Ranges h
@@ -119,10 +106,10 @@ ranges-fresh first q =
       free = omega arith;
       number-count = refl;
       leads-count = refl;
-      word-count = length-tab {X = ℕ} all-words (λ w. 0);
+      word-count = refl;
       number = λ i p. below-as (read-tab most-open (λ i. 0) i p) (omega arith);
       leads = λ i p. below-as (read-tab most-open (λ i. 0) i p) (omega arith);
-      word = λ w p. below-as (read-tab all-words (λ w. 0) w p) (omega arith);
+      words = fresh-fits first;
     }
 
 -- and so is every state that requests give from it
@@ -156,30 +143,32 @@ both-false true b e = absurd (false-is e tt)
 both-false false b e = (refl, e)
 
 -- a word stands in one row only
-row-of : (i o : ℕ) → o < row-words → (i * row-words + o) / row-words ≡ i
-row-of i o q = omega arith
-
 row-alone : {i s o p : ℕ} → o < row-words → p < row-words → i * row-words + o ≡ s * row-words + p → i ≡ s
 row-alone q r e = omega arith
 
--- the word of a cell stands in the row it is put down in
-place-below : (k : Kind) (c : ℕ) → c < cells → set-place k + c / word-marks < row-words
-place-below read c q = omega arith
-place-below write c q = omega arith
+-- which of two is chosen, by what the test came to
+cond-in : {b : Bool} (x y : ℕ) → b ≡ true → cond b x y ≡ x
+cond-in x y e = ap (λ (b : Bool). cond b x y) e
+
+cond-out : {b : Bool} (x y : ℕ) → b ≡ false → cond b x y ≡ y
+cond-out x y e = ap (λ (b : Bool). cond b x y) e
+
+-- the one chosen lacks a mark that both lack
+cond-unmarked : (b : Bool) (x y i : ℕ) → bit x i ≡ false → bit y i ≡ false → bit (cond b x y) i ≡ false
+cond-unmarked b x y i p q = chosen (λ (n : ℕ). bit n i ≡ false) b p q
 
 module _ {h : Held} (b : Blank h) (s : ℕ) (q : s < most-open) where
   -- each move keeps them blank
   blank-opened : Blank (opened-at h s)
-  unfolding word-at
   blank-opened =
       record {
         row = λ i p c.
             let z = both-false (open-at h i) (eqb i s) (sym (opened-open-at h s i) ∙ c) in
             let g = b .row i p (z .0) in
             record {
-              number = number-opened h s i p ∙ ap (λ (b : Bool). cond b (h .next) (number-at h i)) (z .1) ∙ g .number;
+              number = number-opened h s i p ∙ cond-out _ _ (z .1) ∙ g .number;
               leads = leads-opened h s i p ∙ cond-zero (eqb i s) refl (without-zero (leads-at h i) s (g .leads));
-              word = λ o k. word-opened h s (i * row-words + o) (omega arith) ∙ cond-zero (eqb ((i * row-words + o) / row-words) s) refl (g .word o k);
+              word = λ o k. row-opened h s i o p k ∙ cond-zero (eqb i s) refl (g .word o k);
               struck = λ x k.
                   ap (λ (n : ℕ). bit n i) (leads-opened h s x k)
                   ∙ cond-unmarked (eqb x s) 0 _ i (bit-zero i) (without-unmarked (leads-at h x) s i (g .struck x k));
@@ -187,7 +176,7 @@ module _ {h : Held} (b : Blank h) (s : ℕ) (q : s < most-open) where
       }
 
   blank-stepped : (k : Kind) (c : ℕ) → T (open-at h s) → c < cells → Blank (stepped-at h k s c)
-  unfolding number-at word-at open-at stepped-at
+  unfolding number-at open-at stepped-at
   blank-stepped k c o real =
       record {
         row = λ i p z.
@@ -195,10 +184,10 @@ module _ {h : Held} (b : Blank h) (s : ℕ) (q : s < most-open) where
             let other : i ≡ s → ⊥ = λ e. false-is z (subst (λ (x : ℕ). T (open-at h x)) (sym e) o) in
             record {
               number = g .number;
-              leads = leads-stepped h s k c i p ∙ ap (λ (b : Bool). cond (b && touched h k s c i) (bitOr (leads-at h i) (2 ^ s)) (leads-at h i)) z ∙ g .leads;
+              leads = leads-stepped h s k c i p ∙ cond-out _ _ (ap (λ (b : Bool). b && touched h k s c i) z) ∙ g .leads;
               word = λ o m.
-                  word-stepped h s k c (i * row-words + o) (omega arith)
-                  ∙ cond-second (eqb (i * row-words + o) _) _ _ (λ t. other (row-alone m (place-below k c real) (eq-test (i * row-words + o) _ .holds t)))
+                  row-stepped h s i o p m k c
+                  ∙ cond-out _ _ (test-false (eq-test (i * row-words + o) (own-word s k c)) (λ e. other (row-alone m (own-inside k c real) e)))
                   ∙ g .word o m;
               struck = λ x m.
                   ap (λ (n : ℕ). bit n i) (leads-stepped h s k c x m)
@@ -209,38 +198,33 @@ module _ {h : Held} (b : Blank h) (s : ℕ) (q : s < most-open) where
 
   -- the row that is left is blank
   left-row : (t : ℕ → Bool) → BlankRow (left-at h t s) s
-  unfolding word-at
   left-row t =
       record {
-        number = number-left h s t s q ∙ cond-first (eqb s s) 0 _ (eqb-refl s);
-        leads = leads-left h s t s q ∙ cond-first (eqb s s) 0 _ (eqb-refl s);
-        word = λ o k.
-            let w = s * row-words + o in
-            word-left h s t w (omega arith) ∙ cond-first (eqb (w / row-words) s) 0 _ (eq-test (w / row-words) s .shows (row-of s o k));
+        number = number-left h s t s q ∙ cond-in _ _ own;
+        leads = leads-left h s t s q ∙ cond-in _ _ own;
+        word = λ o k. row-left h s s o q k t ∙ cond-in _ _ own;
         struck = λ x k. ap (λ (n : ℕ). bit n s) (leads-left h s t x k) ∙ cond-unmarked (eqb x s) 0 _ s (bit-zero s) (without-struck _ s);
       }
+    where
+      own : eqb s s ≡ true
+      own = test-true (eq-test s s) refl
 
   -- one that was blank stays so, where it takes nothing over
   kept-row : (t : ℕ → Bool) (i : ℕ) → i < most-open → BlankRow h i → (T (t i) → ⊥) → BlankRow (left-at h t s) i
-  unfolding word-at
   kept-row t i p g nothing-taken =
       record {
         number = number-left h s t i p ∙ cond-zero (eqb i s) refl (g .number);
-        leads = leads-left h s t i p ∙ cond-zero (eqb i s) refl (without-zero _ s (cond-second (t i) _ _ nothing-taken ∙ g .leads));
-        word = λ o k.
-            let w = i * row-words + o in
-            let late = leb past-place (w % row-words) in
-            word-left h s t w (omega arith)
-            ∙ cond-zero (eqb (w / row-words) s) refl
-            (cond-second (t (w / row-words) && late) _ _
-            (λ u. nothing-taken (subst (λ (x : ℕ). T (t x)) (row-of i o k) (T-left (t (w / row-words)) late u)))
-            ∙ g .word o k);
+        leads = leads-left h s t i p ∙ cond-zero (eqb i s) refl (without-zero _ s (cond-out _ _ out ∙ g .leads));
+        word = λ o k. row-left h s i o p k t ∙ cond-zero (eqb i s) refl (cond-out _ _ (ap (λ (b : Bool). b && leb past-place o) out) ∙ g .word o k);
         struck = λ x k.
             ap (λ (n : ℕ). bit n i) (leads-left h s t x k)
             ∙ cond-unmarked (eqb x s) 0 _ i (bit-zero i)
             (without-unmarked _ s i
             (cond-unmarked (t x) _ _ i (or-unmarked (leads-at h x) _ i (g .struck x k) (and-unmarked (leads-at h s) _ i (g .struck s q))) (g .struck x k)));
       }
+    where
+      out : t i ≡ false
+      out = is-false {b = t i} nothing-taken
 
   blank-left : (t : ℕ → Bool) → ((i : ℕ) → T (t i) → T (open-at h i)) → Blank (left-at h t s)
   blank-left t only-open =
@@ -285,6 +269,34 @@ pub blank-rows : (first : ℕ) (rs : List Request) → Blank (after-all (fresh-h
 blank-rows first rs = kept-after-all Blank (λ h b. blank-moves b) (fresh-held first) (blank-fresh first) rs
 
 -- ---- which slot is taken, and when nothing changes
+
+-- s is the lowest number below n that passes p
+pub record LowestOf (p : ℕ → Bool) (n s : ℕ) : Type 0 where
+  pub inside : s < n
+  pub passes : T (p s)
+  pub none-lower : (k : ℕ) → k < s → p k ≡ false
+
+-- where not all the numbers below n fail, the first that passes is the lowest
+lowest-passing : (p : ℕ → Bool) (n : ℕ) → length (only (λ x. not (p x)) (upto n)) < n
+    → (s : ℕ) × LowestOf p n s × ((l : List ℕ) × (only p (upto n) ≡ s ∷ l))
+lowest-passing p n few = go (only p (upto n)) refl
+  where
+    go : (l : List ℕ) → only p (upto n) ≡ l → (s : ℕ) × LowestOf p n s × ((l : List ℕ) × (only p (upto n) ≡ s ∷ l))
+    go [] e =
+        let all : length (only p (upto n)) + length (only (λ x. not (p x)) (upto n)) ≡ n = only-both p (upto n) ∙ length-tab n (λ k. k) in
+        let none-passes : length (only p (upto n)) ≡ 0 = ap length e in
+        absurd (omega arith)
+    go (s ∷ l) e =
+        let mine = only-from p (upto n) (subst (λ (x : List ℕ). s ∈ x) (sym e) here) in
+        let low : s < n = upto-from n (mine .0) in
+        (s, record { inside = low; passes = mine .1; none-lower = λ k q. is-false (λ t. lower k q low t) }, (l, e))
+      where
+        lower : (k : ℕ) → k < s → s < n → T (p k) → ⊥
+        lower k q low t =
+            ⊎-elim
+            (λ i. let j : k ≡ s = i in omega arith)
+            (λ i. let r = upto-rises n (before-from-only p (upto n) (subst (λ (x : List ℕ). Before s k x) (sym e) (Before.first refl i))) in omega arith)
+            (List·Memᴰ·cases-cons (subst (λ (x : List ℕ). k ∈ x) e (only-keeps p {x = k} {l = upto n} (upto-has {n = n} (omega arith)) t)))
 
 -- a granted open goes into the lowest free slot, and changes the state as an open there does
 pub lowest-slot : (h : Held) (r : Request) → code-of (facts h) r ≡ 0 → want (r .kind) ≡ an-open

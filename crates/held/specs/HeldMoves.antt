@@ -1,47 +1,38 @@
--- A moved state read slot by slot and word by word, and the three moves that a request can make: an open into a free slot, a step of an open slot, an
--- open slot left by an end or an abandon. What the three keep, every request keeps (`kept-after`), whatever the state holds.
+-- A moved state read slot by slot and word by word; that every move leaves words that fit (`Fits`); and the three moves that a request can make: an open
+-- into a free slot, a step of an open slot, an open slot left by an end or an abandon. What the three keep, every request keeps (`kept-after`), whatever the state holds.
 -- Assumes nothing.
-use mathlib.Core.Path.{_≡_}
+use mathlib.Core.Path.{_≡_, ap, ap₂, _∙_}
 use mathlib.Core.Bool.{Bool, false, not, _&&_, cond}
 use mathlib.Core.Option.{Option, none, some}
 use mathlib.Core.List.{List, [], _∷_}
 use Prim.Native.Nat.{ℕ, _+_, _-_, _*_, _/_, _%_, _^_, _<_}
-use lib.Bits.{bitOr, bitAnd}
+use native.Mathlib.Omega.{arith}
+use lib.Bits.{bitOr, bitAnd, or-lt}
 use lib.Dec.{T, leb, eqb}
 use lib.ListN.{getD}
-use Rattle.graph.specs.Decide.{by-test, eq-test}
+use lib.Pow.{pow-pos, pow-lt}
+use Rattle.graph.specs.Decide.{by-test, eq-test, T-and-left, cond-below}
 use Rattle.graph.specs.Lists.{_∈_, here, only, only-from}
 use Rattle.marks.specs.Marks.{bit, mask-of, without, tab, upto}
+use Rattle.marks.specs.MarkLaws.{getD-tab, upto-from}
 use Rattle.history.specs.Events.{Kind}
 use Rattle.history.specs.Replies.{cells, most-open, numbers, Request, Want, an-open, a-step, an-end, an-abandon, nothing, want, first-of, tests, code-of}
 use Rattle.history.specs.Granted.{below-bound, passed}
-use Rattle.held.specs.Held.{Held, word-marks, row-words, past-place, all-words, number-at, leads-at, word-at, open-at, open-slots, set-place, touched, first-in, slot-of, facts, opened-at, stepped-at, left-at, ended-at, abandoned-at, with-slot, free-slot, moved, after, after-all}
-use Rattle.marks.specs.MarkLaws.{getD-tab, upto-from}
-use Rattle.held.specs.MoreMarks.{T-left}
+use Rattle.held.specs.Held.{Held, word-marks, row-words, past-place, all-words, fresh-held, number-at, leads-at, word-at, open-at, open-slots, set-place, touched, first-in, slot-of, facts, opened-at, stepped-at, left-at, ended-at, abandoned-at, with-slot, free-slot, moved, after, after-all}
 
 -- ---- what a move leaves
-
--- the rule of a table, read off it
-pub read-tab : (n : ℕ) (f : ℕ → ℕ) (i : ℕ) → i < n → getD (tab n f) i 0 ≡ f i
-read-tab n f i q = getD-tab n f i 0 q
 
 -- word w of the sets, counted from the first of the first row
 abbrev pub nth-word : Held → ℕ → ℕ
 nth-word h w = getD (h .sets) w 0
 
--- what the moves make of it
-module _ (h : Held) (s w : ℕ) where
-  abbrev pub opened-word : ℕ
-  opened-word = cond (eqb (w / row-words) s) 0 (nth-word h w)
+-- the word that has the mark of a cell in slot s's own
+abbrev pub own-word : ℕ → Kind → ℕ → ℕ
+own-word s k c = s * row-words + (set-place k + c / word-marks)
 
-  abbrev pub stepped-word : Kind → ℕ → ℕ
-  stepped-word k c = cond (eqb w (s * row-words + (set-place k + c / word-marks))) (bitOr (nth-word h w) (2 ^ (c % word-marks))) (nth-word h w)
-
-  abbrev pub left-word : (ℕ → Bool) → ℕ
-  left-word t =
-      let i = w / row-words in
-      let o = w % row-words in
-      cond (eqb i s) 0 (cond (t i && leb past-place o) (bitOr (nth-word h w) (bitOr (word-at h s (o - past-place)) (word-at h s o))) (nth-word h w))
+-- the rule of a table, read off it
+pub read-tab : (n : ℕ) (f : ℕ → ℕ) (i : ℕ) → i < n → getD (tab n f) i 0 ≡ f i
+read-tab n f i q = getD-tab n f i 0 q
 
 module _ (h : Held) (s : ℕ) where
   -- number, leads and words after an open, a step, a leave. A step leaves the numbers as they are
@@ -53,7 +44,7 @@ module _ (h : Held) (s : ℕ) where
   unfolding leads-at opened-at
   leads-opened = read-tab most-open _
 
-  pub word-opened : (w : ℕ) → w < all-words → nth-word (opened-at h s) w ≡ opened-word h s w
+  pub word-opened : (w : ℕ) → w < all-words → nth-word (opened-at h s) w ≡ cond (eqb (w / row-words) s) 0 (nth-word h w)
   unfolding opened-at
   word-opened = read-tab all-words _
 
@@ -62,7 +53,8 @@ module _ (h : Held) (s : ℕ) where
   unfolding leads-at stepped-at
   leads-stepped k c = read-tab most-open _
 
-  pub word-stepped : (k : Kind) (c w : ℕ) → w < all-words → nth-word (stepped-at h k s c) w ≡ stepped-word h s w k c
+  pub word-stepped : (k : Kind) (c w : ℕ) → w < all-words
+      → nth-word (stepped-at h k s c) w ≡ cond (eqb w (own-word s k c)) (bitOr (nth-word h w) (2 ^ (c % word-marks))) (nth-word h w)
   unfolding stepped-at
   word-stepped k c = read-tab all-words _
 
@@ -76,9 +68,71 @@ module _ (h : Held) (s : ℕ) where
   unfolding leads-at left-at
   leads-left t = read-tab most-open _
 
-  pub word-left : (t : ℕ → Bool) (w : ℕ) → w < all-words → nth-word (left-at h t s) w ≡ left-word h s w t
+  -- r is the word's row and o its place there
+  abbrev left-word : (ℕ → Bool) → ℕ → ℕ → ℕ → ℕ
+  left-word t w r o =
+      cond (eqb r s) 0 (cond (t r && leb past-place o) (bitOr (nth-word h w) (bitOr (word-at h s (o - past-place)) (word-at h s o))) (nth-word h w))
+
+  pub word-left : (t : ℕ → Bool) (w : ℕ) → w < all-words → nth-word (left-at h t s) w ≡ left-word t w (w / row-words) (w % row-words)
   unfolding left-at
   word-left t = read-tab all-words _
+
+-- the same of word o of row i
+module _ (h : Held) (s i o : ℕ) (p : i < most-open) (q : o < row-words) where
+  its-row : (i * row-words + o) / row-words ≡ i
+  its-row = omega arith
+
+  its-place : (i * row-words + o) % row-words ≡ o
+  its-place = omega arith
+
+  pub row-opened : word-at (opened-at h s) i o ≡ cond (eqb i s) 0 (word-at h i o)
+  unfolding word-at
+  row-opened = word-opened h s (i * row-words + o) (omega arith) ∙ ap (λ (r : ℕ). cond (eqb r s) 0 (nth-word h (i * row-words + o))) its-row
+
+  pub row-stepped : (k : Kind) (c : ℕ) → word-at (stepped-at h k s c) i o
+      ≡ cond (eqb (i * row-words + o) (own-word s k c)) (bitOr (word-at h i o) (2 ^ (c % word-marks))) (word-at h i o)
+  unfolding word-at
+  row-stepped k c = word-stepped h s k c (i * row-words + o) (omega arith)
+
+  pub row-left : (t : ℕ → Bool) → word-at (left-at h t s) i o
+      ≡ cond (eqb i s) 0 (cond (t i && leb past-place o) (bitOr (word-at h i o) (bitOr (word-at h s (o - past-place)) (word-at h s o))) (word-at h i o))
+  unfolding word-at
+  row-left t = word-left h s t (i * row-words + o) (omega arith) ∙ ap₂ (left-word h s t (i * row-words + o)) its-row its-place
+
+-- ---- the width of the words
+
+-- every word fits
+pub record Fits (h : Held) : Type 0 where
+  pub word : (w : ℕ) → w < all-words → nth-word h w < 2 ^ word-marks
+
+-- the words of a fresh state do, and those that a move leaves
+pub fresh-fits : (first : ℕ) → Fits (fresh-held first)
+unfolding fresh-held
+fresh-fits first = record { word = λ w p. rw (read-tab all-words (λ w. 0) w p) (pow-pos word-marks) }
+
+module _ {h : Held} (f : Fits h) (s : ℕ) where
+  pub opened-fits : Fits (opened-at h s)
+  opened-fits = record { word = λ w p. rw (word-opened h s w p) (cond-below (eqb (w / row-words) s) (pow-pos word-marks) (f .word w p)) }
+
+  pub stepped-fits : (k : Kind) (c : ℕ) → Fits (stepped-at h k s c)
+  stepped-fits k c =
+      record {
+        word = λ w p. rw (word-stepped h s k c w p)
+            (cond-below (eqb w (own-word s k c)) (or-lt word-marks (nth-word h w) (2 ^ (c % word-marks)) (f .word w p) (pow-lt {j = word-marks} (omega arith))) (f .word w p));
+      }
+
+  pub left-fits : s < most-open → (t : ℕ → Bool) → Fits (left-at h t s)
+  unfolding word-at
+  left-fits r t =
+      record {
+        word = λ w p.
+            let o = w % row-words in
+            rw (word-left h s t w p)
+            (cond-below (eqb (w / row-words) s) (pow-pos word-marks)
+            (cond-below (t (w / row-words) && leb past-place o)
+            (or-lt word-marks (nth-word h w) _ (f .word w p) (or-lt word-marks _ _ (f .word (s * row-words + (o - past-place)) (omega arith)) (f .word (s * row-words + o) (omega arith))))
+            (f .word w p)));
+      }
 
 -- ---- the moves a request can make
 
@@ -113,7 +167,7 @@ module _ (P : Held → Type 0) (h : Held) (p : P h) (m : Moves P h) where
       m .opens s (upto-from most-open (r .0)) (r .1) (below-bound numbers (h .next) (passed (leb numbers (h .next)) 5 _ z .0)))
   kept-moved (a-step k) j c z = kept-at j (λ s. stepped-at h k s c) (λ s q o. m .steps k s c q o (below-bound cells c (passed (leb cells c) 1 _ z .0)))
   kept-moved an-end j c z =
-      kept-at j (λ s. left-at h _ s) (λ s q o. m .leaves _ s q o (λ i t. T-left (open-at h i) (not (eqb i s) && bit (leads-at h i) s) t))
+      kept-at j (λ s. left-at h _ s) (λ s q o. m .leaves _ s q o (λ i t. T-and-left (open-at h i) (not (eqb i s) && bit (leads-at h i) s) t))
   kept-moved an-abandon j c z = kept-at j (λ s. left-at h (λ i. false) s) (λ s q o. m .leaves (λ i. false) s q o (λ i t. absurd t))
   kept-moved nothing j c z = p
 

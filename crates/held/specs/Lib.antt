@@ -1,8 +1,7 @@
 pub mod Held
 pub mod Cases
+pub mod HeldMoves
 pub mod HeldLaws
 pub mod Seen
 pub mod HeldExact
-pub mod MoreMarks
-pub mod HeldMoves
 pub mod HeldBlank

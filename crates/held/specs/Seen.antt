@@ -4,28 +4,31 @@
 -- Assumes nothing.
 use mathlib.Core.Path.{_≡_, refl, sym, ap, ap₂, _∙_, subst, subst₂, fun-ext}
 use mathlib.Core.Logic.{_⊎_, inl, inr, ⊎-elim}
-use mathlib.Core.Bool.{Bool, true, false, not, _&&_, _||_, cond}
+use mathlib.Core.Bool.{Bool, true, false, not, _&&_, _||_, cond, and-comm, or-false}
 use mathlib.Core.Option.{Option, some}
 use mathlib.Core.List.{List, [], _∷_, _++_, List·Memᴰ·not-nil, List·Memᴰ·append-cases, Memᴰ·append-left, Memᴰ·append-right, List·Memᴰ·cases-cons, List·Memᴰ·eq-of-singleton, Memᴰ·cast}
 use Prim.Native.Nat.{ℕ, zero, suc, _+_, _-_, _*_, _/_, _%_, _^_, _≤_, _<_}
 use native.Mathlib.Omega.{arith}
-use lib.Dec.{T, leb, eqb, T-not, not-T}
+use lib.Dec.{T, lit<, leb, eqb, T-not, not-T}
 use lib.ListN.{length, length-append}
 use lib.Pow.{pow-pos}
-use Rattle.graph.specs.Decide.{Decides, not-test, eq-test, own-test, read-as, same-test, is-true, true-is, test-true, test-false, T-or-right, by-test, some-of, some-test, answer}
-use Rattle.graph.specs.Lists.{_∈_, here, later, only, only-from, only-keeps, before-from-only, Once, once-if, strike, strike-keeps, strike-from}
+use Rattle.graph.specs.Decide.{Decides, not-test, eq-test, own-test, read-as, same-test, is-true, true-is, test-true, test-false, T-or-right, by-test, some-of, some-test, some-same, answer}
+use Rattle.graph.specs.Lists.{_∈_, here, only, only-from, only-keeps, before-from-only, Once, once-if, strike, strike-keeps, strike-from, strike-once}
 use Rattle.graph.specs.Walk.{Via, one, step}
 use Rattle.graph.specs.Reach.{reach, reach-test}
 use Rattle.marks.specs.Marks.{bit, upto}
+use Rattle.marks.specs.MarkLaws.{getD-tab, tab-member, upto-has, upto-from, bit-zero, bit-others}
+use Rattle.marks.specs.Words.{marked, empty}
+use Rattle.marks.specs.WordLaws.{Fit, empty-test}
 use Rattle.history.specs.Events.{Kind, kinds, clash, alters, Event, History, has, opened, ended, abandoned, kept, open-now}
 use Rattle.history.specs.Replies.{cells, most-open, numbers, Request, Want, an-open, a-step, an-end, an-abandon, nothing, want, first-of, tests, code-of, event-of, granted-of}
 use Rattle.history.specs.Memory.{Footprint, Memory, fresh, meets, touches, same-kind, step-in, blank, fold, right, open-in, move, move-all, below, held}
 use Rattle.history.specs.TurnLaws.{has-test, open-opened, orderly}
 use Rattle.history.specs.Granted.{below-bound, passed}
 use Rattle.history.specs.Exact.{Agree, agree-code, Beside, below-has}
-use Rattle.held.specs.Held.{Held, fresh-held, word-marks, set-words, row-words, number-at, leads-at, word-at, open-at, open-slots, set-place, cell-at, own-at, past-at, first-in, is-some, at-slot, slot-of, touched, chain-back, altered, facts, opened-at, stepped-at, left-at, ended-at, abandoned-at, with-slot, free-slot, moved, after}
-use Rattle.marks.specs.MarkLaws.{upto-has, upto-from, bit-zero, bit-others, bit-nonzero, nonzero-bit}
-use Rattle.held.specs.HeldLaws.{set-end, Fits, fresh-fits, opened-fits, stepped-fits, left-fits, takes-over, strike-once, slot-from, slot-if, slots-once, slots-full, slots-opened, slots-stepped, slots-left, opened-open-at, opened-number-at, opened-leads-at, opened-own-at, opened-past-at, stepped-leads-at, stepped-own-at, stepped-past-at, left-number-at, left-leads-at, left-own-at, left-past-at, or-false, and-swap}
+use Rattle.held.specs.Held.{Held, fresh-held, word-marks, set-words, row-words, number-at, leads-at, word-at, open-at, open-slots, set-place, set-at, cell-at, own-at, past-at, first-in, is-some, at-slot, slot-of, touched, chain-back, altered, facts, opened-at, stepped-at, left-at, takes-over, ended-at, abandoned-at, with-slot, free-slot, moved, after}
+use Rattle.held.specs.HeldMoves.{number-opened, number-left, Fits, fresh-fits, opened-fits, stepped-fits, left-fits}
+use Rattle.held.specs.HeldLaws.{set-end, slot-from, slot-if, slots-once, slots-full, slots-opened, slots-stepped, slots-left, opened-open-at, opened-leads-at, opened-own-at, opened-past-at, stepped-leads-at, stepped-own-at, stepped-past-at, left-leads-at, left-own-at, left-past-at}
 
 -- ---- what is meant
 
@@ -160,34 +163,28 @@ below-from : (c n : ℕ) → c ∈ below n → c < n
 below-from c zero h = absurd (List·Memᴰ·not-nil h)
 below-from c (suc n) h = ⊎-elim (λ e. let q : c ≡ n = e in omega arith) (λ r. let q = below-from c n r in omega arith) (List·Memᴰ·cases-cons h)
 
--- tests that agree on the members come out the same for a list
-some-same : (p q : ℕ → Bool) (l : List ℕ) → ((x : ℕ) → x ∈ l → p x ≡ q x) → some-of p l ≡ some-of q l
-some-same p q [] h = refl
-some-same p q (x ∷ l) h = ap₂ (λ (a b : Bool). a || b) (h x here) (some-same p q l (λ y m. h y (later m)))
+-- a cell is in a set of a row exactly when its mark is in the set's words
+cell-marked : (st : Held) (i o c : ℕ) → c < cells → cell-at st i o c ≡ marked word-marks (set-at st i o) c
+unfolding cell-at marked
+cell-marked st i o c q = ap (λ (n : ℕ). bit n (c % word-marks)) (sym (getD-tab set-words (λ w. word-at st i (o + w)) (c / word-marks) 0 (omega arith)))
 
--- some word of a set is not 0 exactly when some cell is in the set
-word-or-cell : {st : Held} → Fits st → (i o : ℕ) → i < most-open → o + set-words ≤ row-words
-    → some-of (λ w. not (eqb (word-at st i (o + w)) 0)) (upto set-words) ≡ some-of (cell-at st i o) (below cells)
-unfolding cell-at
-word-or-cell {st} f i o p q =
-    same-test
-    (some-test (λ w. not-test (eq-test (word-at st i (o + w)) 0)) (upto set-words))
-    (some-test (λ c. own-test (bit (word-at st i (o + c / word-marks)) (c % word-marks))) (below cells))
-    (λ r.
-    let z = upto-from set-words (r .1) in
-    let b = nonzero-bit word-marks (word-at st i (o + r .0)) (f .word-fits i (o + r .0) p (omega arith)) (r .2) in
-    cell (r .0) (b .0) z (b .1) (b .2))
-    (λ r.
-    let z = below-from (r .0) cells (r .1) in
-    (r .0 / word-marks, upto-has {n = set-words} (omega arith), bit-nonzero (word-at st i (o + r .0 / word-marks)) (r .0 % word-marks) (r .2)))
+set-fits : {st : Held} → Fits st → (i o : ℕ) → i < most-open → o + set-words ≤ row-words → Fit word-marks (set-at st i o)
+unfolding word-at
+set-fits {st} f i o p q w m =
+    let r = tab-member set-words (λ w. word-at st i (o + w)) m in
+    let z = r .1 in
+    subst (λ (n : ℕ). n < 2 ^ word-marks) (sym (r .2)) (f .word (i * row-words + (o + r .0)) (omega arith))
+
+-- so a set is not empty exactly when some cell is in it
+set-or-cell : {st : Held} → Fits st → (i o : ℕ) → i < most-open → o + set-words ≤ row-words
+    → not (empty (set-at st i o)) ≡ some-of (cell-at st i o) (below cells)
+set-or-cell {st} f i o p q =
+    same-test (not-test (empty-test word-marks (set-at st i o) (lit< tt) (set-fits f i o p q))) cell-test
+    (λ n. ⊎-elim (λ r. r) (λ none. absurd (n (λ c h t. none (c, below-has c cells h, subst T (sym (cell-marked st i o c h)) t)))) (answer cell-test))
+    (λ r n. let h = below-from (r .0) cells (r .1) in n (r .0) h (subst T (cell-marked st i o (r .0) h) (r .2)))
   where
-    cell : (w k : ℕ) → w < set-words → k < word-marks → T (bit (word-at st i (o + w)) k)
-        → (c : ℕ) × (c ∈ below cells) × T (bit (word-at st i (o + c / word-marks)) (c % word-marks))
-    cell w k z y t =
-        let c = w * word-marks + k in
-        let its-word : w ≡ c / word-marks = omega arith in
-        let its-mark : k ≡ c % word-marks = omega arith in
-        (c, below-has c cells (omega arith), subst₂ (λ (a b : ℕ). T (bit (word-at st i (o + a)) b)) its-word its-mark t)
+    cell-test : Decides (some-of (cell-at st i o) (below cells)) ((c : ℕ) × (c ∈ below cells) × T (cell-at st i o c))
+    cell-test = some-test (λ c. own-test (cell-at st i o c)) (below cells)
 
 module _ {st : Held} {m : Memory} (seen : Seen st m) where
   -- the slot of a job that is open
@@ -199,7 +196,7 @@ module _ {st : Held} {m : Memory} (seen : Seen st m) where
   unfolding altered held
   altered-same s p =
       ap (λ (a : Kind → Bool). some-of (λ k. alters k && a k) kinds)
-      (fun-ext (λ k. word-or-cell (seen .fits) s (set-place k) (slot-from st p .0) (omega (arith, set-end k))
+      (fun-ext (λ k. set-or-cell (seen .fits) s (set-place k) (slot-from st p .0) (omega (arith, set-end k))
       ∙ some-same (own-at st s k) (m .own (number-at st s) k) (below cells) (λ c r. seen .own s p k c (below-from c cells r))))
 
   -- a step closes a chain over slots exactly when it closes one over jobs
@@ -318,7 +315,7 @@ module _ {st : Held} {m : Memory} (seen : Seen st m) (once : Once (m .jobs)) (s 
     slot-kept {i} o ne = subst (λ (l : List ℕ). i ∈ l) (sym (slots-left st t s)) (strike-keeps o ne)
 
     number-kept : {i : ℕ} → i ∈ open-slots st → (i ≡ s → ⊥) → number-at (left-at st t s) i ≡ number-at st i
-    number-kept {i} o ne = left-number-at st t s i (slot-from st o .0) ∙ ap (λ (b : Bool). cond b 0 (number-at st i)) (test-false (eq-test i s) ne)
+    number-kept {i} o ne = number-left st s t i (slot-from st o .0) ∙ ap (λ (b : Bool). cond b 0 (number-at st i)) (test-false (eq-test i s) ne)
 
     same-number : {i : ℕ} → i ∈ open-slots (left-at st t s) → number-at (left-at st t s) i ≡ number-at st i
     same-number o = let q = other-slot o in number-kept (q .0) (q .1)
@@ -335,7 +332,7 @@ module _ {st : Held} {m : Memory} (seen : Seen st m) (once : Once (m .jobs)) (s 
     passed-on : {x : ℕ} → x ∈ open-slots st → bit (leads-at st s) x && open-at st x ≡ m .leads (number-at st s) (number-at st x)
     passed-on {x} q =
         ap (λ (b : Bool). bit (leads-at st s) x && b) (is-true {b = open-at st x} (slot-from st q .1))
-        ∙ and-swap (bit (leads-at st s) x) true ∙ seen .leads s x p q
+        ∙ and-comm (bit (leads-at st s) x) true ∙ seen .leads s x p q
 
     -- a slot is left as its job is: struck out, once the jobs that pass have taken over
     seen-left : Seen (left-at st t s) (blank (over u m (number-at st s)) (number-at st s))
@@ -444,12 +441,12 @@ module _ {st : Held} {m : Memory} (seen : Seen st m) (unused : Unused m (m .next
 
   new-number : {i : ℕ} → i ≡ s → number-at (opened-at st s) i ≡ m .next
   new-number {i} e =
-      opened-number-at st s i (subst (λ (x : ℕ). x < most-open) (sym e) p)
+      number-opened st s i (subst (λ (x : ℕ). x < most-open) (sym e) p)
       ∙ ap (λ (b : Bool). cond b (st .next) (number-at st i)) (test-true (eq-test i s) e) ∙ seen .next
 
   old-number : {i : ℕ} → i ∈ open-slots st → number-at (opened-at st s) i ≡ number-at st i
   old-number {i} o =
-      opened-number-at st s i (slot-from st o .0) ∙ ap (λ (b : Bool). cond b (st .next) (number-at st i)) (test-false (eq-test i s) (still-open o .1))
+      number-opened st s i (slot-from st o .0) ∙ ap (λ (b : Bool). cond b (st .next) (number-at st i)) (test-false (eq-test i s) (still-open o .1))
 
   -- no old slot has the new number
   new-differs : {i x : ℕ} → i ≡ s → x ∈ open-slots st → number-at (opened-at st s) i ≡ number-at (opened-at st s) x → ⊥

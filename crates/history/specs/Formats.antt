@@ -4,12 +4,23 @@
 -- Assumes nothing.
 use mathlib.Core.List.{List, [], _∷_, _++_}
 use Prim.Native.Nat.{ℕ, zero, suc, _+_, _*_, _/_, _%_}
+use lib.ListN.{getD}
 use Rattle.history.specs.Replies.{Request, Reply}
 
 -- a number as so many bytes, low byte first
 abbrev pub bytes-of : ℕ → ℕ → List ℕ
 bytes-of zero n = []
 bytes-of (suc k) n = n % 256 ∷ bytes-of k (n / 256)
+
+-- the request that eight bytes are
+unfoldable pub request-of : List ℕ → Request
+request-of b =
+    record {
+      kind = getD b 0 0;
+      byte1 = getD b 1 0;
+      cell = getD b 2 0 + getD b 3 0 * 256;
+      job = getD b 4 0 + getD b 5 0 * 256 + getD b 6 0 * 65536 + getD b 7 0 * 16777216;
+    }
 
 -- whole records, eight bytes each; what is left over at the end is dropped
 abbrev pub records : List ℕ → List Request

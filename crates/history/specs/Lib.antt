@@ -2,6 +2,7 @@ pub mod Events
 pub mod Replies
 pub mod ReplyLaws
 pub mod Formats
+pub mod RecordLaws
 pub mod Turns
 pub mod Orders
 pub mod Run

@@ -2,18 +2,22 @@
 -- the full history does. One table under one statement (`wrong-builds`), computed from the definitions.
 --
 -- Five fail a P case. Three pass all of them, so each fails a history of our own (`own-cases` of Cases).
+--
+-- And of any arbiter whatever, with states of any sort, that answers as the full history does (`Exact`): it does not refuse every step (`grants-some`), nor let
+-- every step through (`refuses-some`), its state moves at a step (`moves-at-a-step`), and moves truly at a job's later steps too (`later-steps-count`).
 -- Assumes nothing.
-use mathlib.Core.Path.{_≡_, refl}
+use mathlib.Core.Path.{_≡_, refl, sym, ap, _∙_}
 use mathlib.Core.Bool.{Bool, true, false, not, _&&_, _||_}
-use mathlib.Core.List.{List, [], _∷_, map}
-use Prim.Native.Nat.{ℕ}
-use lib.Dec.{eqb}
+use mathlib.Core.List.{List, [], _∷_, _++_, map}
+use Prim.Native.Nat.{ℕ, zero, suc}
+use native.Mathlib.Omega.{arith}
+use lib.Dec.{T, eqb}
 use Rattle.graph.specs.Lists.{_∈_}
 use Rattle.graph.specs.Reach.{reach}
-use Rattle.history.specs.Events.{Kind, has}
-use Rattle.history.specs.Replies.{Reply, replies}
-use Rattle.history.specs.Memory.{Footprint, Memory, fresh, meets, step-in, blank, fold, Rule, held-replies}
-use Rattle.history.specs.Cases.{granted, refused, Case, requests-of, replies-of, Outcome, expected, computed, p2, p3, p4, p5, p6, p7, p-table, past-of-ended, leads-of-ended, chain-abandoned, rows}
+use Rattle.history.specs.Events.{Kind, read, write, has, Step, all-steps}
+use Rattle.history.specs.Replies.{Request, Reply, a-step, want, reply-of, granted-of, replies, history-of}
+use Rattle.history.specs.Memory.{Footprint, Memory, fresh, meets, step-in, blank, fold, Rule, right, move-all, held, held-replies}
+use Rattle.history.specs.Cases.{open-one, reads, writes, granted, refused, Case, requests-of, replies-of, Outcome, expected, computed, p2, p3, p4, p5, p6, p7, p-table, past-of-ended, leads-of-ended, chain-abandoned, rows}
 
 -- ---- the builds
 
@@ -220,3 +224,80 @@ build-table =
 pub wrong-builds : (b : Build) → b ∈ build-table → found b ≡ claimed b
 unfolding found
 wrong-builds b = rows found claimed (refl, (refl, (refl, (refl, (refl, (refl, (refl, (refl, tt))))))))
+
+-- ---- any arbiter
+
+-- states of any sort, a fresh one for each first number; for a state and a request the answer, and the next state
+pub record Arbiter : Type 1 where
+  pub State : Type 0
+  pub fresh : ℕ → State
+  pub answer : State → Request → Reply
+  pub next : State → Request → State
+
+-- through a list of requests: the answers, one by one, and the state that they leave
+abbrev pub answers : (a : Arbiter) → a .State → List Request → List Reply
+answers a s [] = []
+answers a s (r ∷ rs) = a .answer s r ∷ answers a (a .next s r) rs
+
+abbrev pub left : (a : Arbiter) → a .State → List Request → a .State
+left a s [] = s
+left a s (r ∷ rs) = left a (a .next s r) rs
+
+-- demand 2: every reply is the one that the full history gives
+abbrev pub Exact : Arbiter → Type 0
+Exact a = (first : ℕ) (rs : List Request) → answers a (a .fresh first) rs ≡ replies first rs
+
+-- the bounded memory as an arbiter; Promises has that it is exact (`memory-meets`)
+abbrev pub of-memory : Arbiter
+of-memory = record { State = Memory; fresh = fresh; answer = λ m r. reply-of (held right m) r; next = λ m r. move-all right m (granted-of (held right m) r) }
+
+pub memory-answers : (m : Memory) (rs : List Request) → answers of-memory m rs ≡ held-replies right m rs
+memory-answers m [] = refl
+memory-answers m (r ∷ rs) = ap (λ (l : List Reply). reply-of (held right m) r ∷ l) (memory-answers (move-all right m (granted-of (held right m) r)) rs)
+
+-- the code at a place; 8, which is no code, where there is none
+abbrev code-at : ℕ → List Reply → ℕ
+code-at n [] = 8
+code-at zero (x ∷ l) = x .code
+code-at (suc n) (x ∷ l) = code-at n l
+
+module _ (a : Arbiter) (exact : Exact a) where
+  -- the code that the arbiter gives at a place is the full history's
+  said : (n : ℕ) (rs : List Request) → code-at n (answers a (a .fresh 1) rs) ≡ code-at n (replies 1 rs)
+  said n rs = ap (code-at n) (exact 1 rs)
+
+  -- it does not refuse every step: a lone job's read is granted
+  pub grants-some : ((s : a .State) (k : Kind) (r : Request) → want (r .kind) ≡ a-step k → a .answer s r .code ≡ 0 → ⊥) → ⊥
+  unfolding computed
+  grants-some refuses = refuses (left a (a .fresh 1) (open-one ∷ [])) read (reads 1 5) refl (said 1 (open-one ∷ reads 1 5 ∷ []))
+
+  -- it does not let every step through: in P2 the last write gets 7
+  pub refuses-some : ((s : a .State) (k : Kind) (r : Request) → want (r .kind) ≡ a-step k → a .answer s r .code ≡ 7 → ⊥) → ⊥
+  unfolding computed
+  refuses-some grants =
+      let before = open-one ∷ open-one ∷ reads 1 5 ∷ writes 2 5 ∷ [] in
+      grants (left a (a .fresh 1) before) write (writes 1 5) refl (said 4 (before ++ writes 1 5 ∷ []))
+
+  -- its state does not stay at every step: else the write of job 1 would be answered as if nobody had read or written
+  pub moves-at-a-step : ((s : a .State) (k : Kind) (r : Request) → want (r .kind) ≡ a-step k → a .next s r ≡ s) → ⊥
+  unfolding computed
+  moves-at-a-step stays =
+      let s = left a (a .fresh 1) (open-one ∷ open-one ∷ []) in
+      let t = a .next s (reads 1 5) in
+      let p : a .answer (a .next t (writes 2 5)) (writes 1 5) .code ≡ 7 = said 4 (open-one ∷ open-one ∷ reads 1 5 ∷ writes 2 5 ∷ writes 1 5 ∷ []) in
+      let q : a .answer s (writes 1 5) .code ≡ 0 = said 2 (open-one ∷ open-one ∷ writes 1 5 ∷ []) in
+      let e : a .next t (writes 2 5) ≡ s = stays t write (writes 2 5) refl ∙ stays s read (reads 1 5) refl in
+      let z : _≡_ {A = ℕ} 7 0 = sym p ∙ (ap (λ (x : a .State). a .answer x (writes 1 5) .code) e ∙ q) in
+      omega arith
+
+  -- a job's first step is not the only one that counts: else the write of job 1 would be answered as if job 2 had not written cell 6, after its write of cell 5
+  pub later-steps-count :
+      ((first : ℕ) (rs : List Request) (k : Kind) (r q : Request) → want (r .kind) ≡ a-step k → T (has (map (λ (s : Step). s .job) (all-steps (history-of first rs))) (r .job))
+      → a .answer (a .next (left a (a .fresh first) rs) r) q ≡ a .answer (left a (a .fresh first) rs) q) → ⊥
+  unfolding computed
+  later-steps-count for-show =
+      let before = open-one ∷ open-one ∷ reads 1 5 ∷ writes 2 5 ∷ [] in
+      let p : a .answer (a .next (left a (a .fresh 1) before) (writes 2 6)) (writes 1 6) .code ≡ 7 = said 5 (before ++ writes 2 6 ∷ writes 1 6 ∷ []) in
+      let q : a .answer (left a (a .fresh 1) before) (writes 1 6) .code ≡ 0 = said 4 (before ++ writes 1 6 ∷ []) in
+      let z : _≡_ {A = ℕ} 7 0 = sym p ∙ (ap (λ (x : Reply). x .code) (for-show 1 before write (writes 2 6) (writes 1 6) refl tt) ∙ q) in
+      omega arith

@@ -5,61 +5,21 @@ use mathlib.Core.Bool.{Bool, true, false, _&&_, and-false}
 use mathlib.Core.List.{List, [], _∷_, _++_, append-assoc, append-nil}
 use Prim.Native.Nat.{ℕ, _+_, _*_, _/_, _≤_, _<_}
 use native.Mathlib.Nat.{add-zero}
-use native.Mathlib.Numerals.{add-one}
 use native.Mathlib.Omega.{arith}
 use lib.Dec.{ltb}
-use lib.ListN.{length, getD, take, drop, length-drop}
-use lib.Seq.{drop-cons, length-take-le}
+use lib.ListN.{length, take, drop, length-drop}
+use lib.Seq.{length-take-le}
 use borrow.Author.Tests.{lt-ltb, le-ltb, le-leb, lt-leb}
 use Rattle.text.specs.Puts.{Puts, agree}
-use Rattle.history.specs.Formats.{records}
+use Rattle.history.specs.Formats.{request-of, records}
+use Rattle.history.specs.RecordLaws.{no-record, eight, next-record}
 use Rattle.history.specs.Replies.{Request, Reply}
 use Rattle.held.specs.Held.{Held, answer-to, after, answers, after-all}
-use Rattle.arbiter.specs.Lent.{lent, request-of, numbered, Steps}
+use Rattle.arbiter.specs.Lent.{lent, numbered, Steps}
 use Rattle.arbiter.specs.declared.Moved.{Moved}
 use Rattle.lines.specs.Lines.{line, lines, lines-of}
 use Rattle.lines.specs.Writes.{Writes, most-place, roomy}
 use Rattle.lines.proofs.PutLaws.{puts-starts, starts-none}
-
--- ---- records
-
-one : (l : List ℕ) (f g : ℕ) → f < length l → g ≡ f + 1 → drop f l ≡ getD l f 0 ∷ drop g l
-one l f g h e = drop-cons l f 0 h ∙ ap (λ (k : ℕ). getD l f 0 ∷ drop k l) (sym (e ∙ add-one f))
-
-next-of : {a : List ℕ} {b : List ℕ} (x : ℕ) → a ≡ b → _≡_ {A = List ℕ} (x ∷ a) (x ∷ b)
-next-of x e = ap (λ (l : List ℕ). x ∷ l) e
-
--- the eight bytes at a place
-abbrev pub eight : List ℕ → ℕ → List ℕ
-eight l f =
-    getD l f 0 ∷ getD l (f + 1) 0 ∷ getD l (f + 2) 0 ∷ getD l (f + 3) 0 ∷ getD l (f + 4) 0 ∷ getD l (f + 5) 0 ∷ getD l (f + 6) 0 ∷ getD l (f + 7) 0 ∷ []
-
-eight-off : (l : List ℕ) (f : ℕ) → f + 8 ≤ length l → drop f l ≡ eight l f ++ drop (f + 8) l
-eight-off l f h =
-    one l f (f + 1) (omega arith) refl
-    ∙ next-of _ (one l (f + 1) (f + 2) (omega arith) (omega arith)
-    ∙ next-of _ (one l (f + 2) (f + 3) (omega arith) (omega arith)
-    ∙ next-of _ (one l (f + 3) (f + 4) (omega arith) (omega arith)
-    ∙ next-of _ (one l (f + 4) (f + 5) (omega arith) (omega arith)
-    ∙ next-of _ (one l (f + 5) (f + 6) (omega arith) (omega arith)
-    ∙ next-of _ (one l (f + 6) (f + 7) (omega arith) (omega arith)
-    ∙ next-of _ (one l (f + 7) (f + 8) (omega arith) (omega arith))))))))
-
-record-off : (l : List ℕ) (f g : ℕ) → f + 8 ≤ length l → g ≡ f + 8 → records (drop f l) ≡ request-of (eight l f) ∷ records (drop g l)
-unfolding request-of
-record-off l f g h e = ap records (eight-off l f h) ∙ ap (λ (k : ℕ). request-of (eight l f) ∷ records (drop k l)) (sym e)
-
--- fewer than eight bytes are no record
-short : (l : List ℕ) → length l < 8 → records l ≡ []
-short [] h = refl
-short (a ∷ []) h = refl
-short (a ∷ b ∷ []) h = refl
-short (a ∷ b ∷ c ∷ []) h = refl
-short (a ∷ b ∷ c ∷ d ∷ []) h = refl
-short (a ∷ b ∷ c ∷ d ∷ e ∷ []) h = refl
-short (a ∷ b ∷ c ∷ d ∷ e ∷ f ∷ []) h = refl
-short (a ∷ b ∷ c ∷ d ∷ e ∷ f ∷ g ∷ []) h = refl
-short (a ∷ b ∷ c ∷ d ∷ e ∷ f ∷ g ∷ k ∷ l) h = let n = length l in absurd (omega arith)
 
 -- ---- turns
 
@@ -85,7 +45,9 @@ pub run-next : {p : ℕ} {h₀ : Held} {input out₀ : List ℕ} {h : Held} {out
     → Run p h₀ input out₀ (lent (m .next) (m .free) numbers leads sets) out′ (i + 1) at′
 run-next {p} {h₀} {input} {out₀} {h} {out} {out′} {i} {at} {at′} {m} {numbers} {leads} {sets} r more s w l =
     let q = request-of (eight input (i * 8)) in
-    let e : records (drop (i * 8) input) ≡ q ∷ records (drop ((i + 1) * 8) input) = record-off input (i * 8) ((i + 1) * 8) (omega arith) (omega arith) in
+    let on : i * 8 + 8 ≡ (i + 1) * 8 = omega arith in
+    let e : records (drop (i * 8) input) ≡ q ∷ records (drop ((i + 1) * 8) input) =
+    next-record input (i * 8) (omega arith) ∙ ap (λ (k : ℕ). q ∷ records (drop k input)) on in
     let k : p + (i + 1) ≡ p + i + 1 = omega arith in
     let rest = drop ((i + 1) * 8) input in
     record {
@@ -136,7 +98,7 @@ pub writes-all : {p : ℕ} {h₀ : Held} {input out₀ : List ℕ} {next free : 
 writes-all {p} {h₀} {input} {out₀} {next} {free} {numbers} {leads} {sets} {out} {i} {at} r done place fit most =
     let t = is-roomy p input out₀ place fit in
     let h = lent next free numbers leads sets in
-    let none : records (drop (i * 8) input) ≡ [] = short (drop (i * 8) input) (simp length-drop (omega arith)) in
+    let none : records (drop (i * 8) input) ≡ [] = no-record (drop (i * 8) input) (simp length-drop (omega arith)) in
     let bytes : take at out ≡ lines-of p h₀ input =
     sym (append-nil (take at out)) ∙ ap (λ (x : List ℕ). take at out ++ x) (sym (no-lines (p + i) h (drop (i * 8) input) none)) ∙ r .put in
     let n : at ≡ length (lines-of p h₀ input) = sym (length-take-le at out (omega (arith, r .room, r .same))) ∙ ap length bytes in

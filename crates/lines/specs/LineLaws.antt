@@ -8,6 +8,7 @@ use native.Mathlib.Nat.{add-zero}
 use native.Mathlib.Omega.{arith}
 use lib.ListN.{length}
 use Rattle.history.specs.Formats.{records}
+use Rattle.history.specs.RecordLaws.{records-length}
 use Rattle.history.specs.Replies.{Request, Reply}
 use Rattle.held.specs.Held.{Held, fresh-held, answer-to, after, answers, after-all}
 use Rattle.held.specs.HeldExact.{held-exact}
@@ -28,17 +29,6 @@ records-append (k ∷ z ∷ c ∷ d ∷ []) b h = absurd (omega arith)
 records-append (k ∷ z ∷ c ∷ d ∷ i ∷ []) b h = absurd (omega arith)
 records-append (k ∷ z ∷ c ∷ d ∷ i ∷ j ∷ []) b h = absurd (omega arith)
 records-append (k ∷ z ∷ c ∷ d ∷ i ∷ j ∷ m ∷ []) b h = absurd (omega arith)
-
-records-count : (a : List ℕ) → length (records a) ≡ length a / 8
-records-count (k ∷ z ∷ c ∷ d ∷ i ∷ j ∷ m ∷ n ∷ l) = let e = records-count l in omega arith
-records-count [] = refl
-records-count (k ∷ []) = refl
-records-count (k ∷ z ∷ []) = refl
-records-count (k ∷ z ∷ c ∷ []) = refl
-records-count (k ∷ z ∷ c ∷ d ∷ []) = refl
-records-count (k ∷ z ∷ c ∷ d ∷ i ∷ []) = refl
-records-count (k ∷ z ∷ c ∷ d ∷ i ∷ j ∷ []) = refl
-records-count (k ∷ z ∷ c ∷ d ∷ i ∷ j ∷ m ∷ []) = refl
 
 lines-append : (p : ℕ) (h : Held) (x y : List Request)
     → lines p (answers h (x ++ y)) ≡ lines p (answers h x) ++ lines (p + length x) (answers (after-all h x) y)
@@ -61,7 +51,7 @@ unfolding lines-of
 lines-of-append p h a b e =
     ap (λ (rs : List Request). lines p (answers h rs)) (records-append a b e)
     ∙ lines-append p h (records a) (records b)
-    ∙ ap (λ (n : ℕ). lines p (answers h (records a)) ++ lines (p + n) (answers (after-all h (records a)) (records b))) (records-count a)
+    ∙ ap (λ (n : ℕ). lines p (answers h (records a)) ++ lines (p + n) (answers (after-all h (records a)) (records b))) (records-length a)
 
 pub after-all-append : (h : Held) (a b : List ℕ) → length a % 8 ≡ 0 → after-all h (records (a ++ b)) ≡ after-all (after-all h (records a)) (records b)
 after-all-append h a b e = ap (after-all h) (records-append a b e) ∙ after-append h (records a) (records b)

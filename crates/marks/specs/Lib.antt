@@ -1,4 +1,5 @@
 pub mod Marks
 pub mod Words
 pub mod MarkLaws
+pub mod MaskLaws
 pub mod WordLaws

@@ -3,11 +3,11 @@
 -- In order: tables, their elements and members; a number as its half and its lowest mark (`halved`, `bit-low`, `bit-high`), which carries what
 -- follows; the marks of 0 and of a power of 2, and that numbers of one width with the same marks are equal (`bit-same`); the marks of a number made of
 -- others by `bitOr`, `bitAnd` or as a complement; a mark taken out; masks; the lowest mark, by one induction over halves (`by-lowest`); the count of marks;
--- and what code writes for them: `n & !(1 << s)`, `n & (n - 1)`, `n & (1 << s)`.
+-- and what code writes for them: `1 << s`, `n | (1 << s)`, `n & !(1 << s)`, `n & (n - 1)`, `n & (1 << s)`.
 -- Assumes nothing.
 use mathlib.Core.Path.{_≡_, refl, sym, ap, ap₂, _∙_, subst}
 use mathlib.Core.Logic.{_⊎_, ⊎-elim}
-use mathlib.Core.Bool.{Bool, true, false, not, _&&_, _||_, cond, and-true, and-false, or-false}
+use mathlib.Core.Bool.{Bool, true, false, not, _&&_, _||_, cond, and-true, and-false, or-false, Bool·not-not}
 use mathlib.Core.List.{List, [], _∷_, List·Memᴰ·not-nil, List·Memᴰ·cases-cons}
 use Prim.Native.Nat.{ℕ, zero, suc, _+_, _-_, _*_, _/_, _%_, _^_, _≤_, _<_, suc-le-suc, min, max}
 use native.Mathlib.Nat.{add-zero, zero-add, add-comm, one-mul, sub-add-cancel, pow-suc, pow-succ', mod-lt, div-one, zero-div, div-add-mod', div-div-eq-div-mul}
@@ -19,9 +19,9 @@ use lib.Bits.{bitOr, bitAnd, or-step, and-step, or-shifted-r, and-self, and-bloc
 use lib.Count.{ones, ones-step, under, trailingZeros}
 use lib.Dec.{T, lit<, eqb, eqb·zero-suc, eqb·suc-zero, eqb·suc-suc, eqb-refl}
 use lib.ListN.{length, getD}
-use lib.Pow.{pow-pos, pow-lt}
-use Rattle.graph.specs.Decide.{Decides, true-is, false-is, T-and, eq-test, and-test, or-test, not-test, own-test, same-test, test-true, test-false}
-use Rattle.graph.specs.Lists.{_∈_, here, later, only}
+use lib.Pow.{pow-pos, pow-lt, shl-exact}
+use Rattle.graph.specs.Decide.{Decides, true-is, false-is, T-and, eq-test, and-test, or-test, not-test, own-test, read-as, same-test, test-true, test-false}
+use Rattle.graph.specs.Lists.{_∈_, here, later, only, Before, before-nil, before-cons, Once, once-if}
 use Rattle.marks.specs.Marks.{bit, mask-of, without, tab-from, tab, upto}
 
 -- ---- lists made by a rule
@@ -83,6 +83,20 @@ upto-has {i} {n} h = tab-has n (λ k. k) i h
 pub upto-from : {i : ℕ} (n : ℕ) → i ∈ upto n → i < n
 upto-from n m = let r = tab-member n (λ k. k) m in subst (λ (k : ℕ). k < n) (sym (r .2)) (r .1)
 
+-- they stand in their order, and so each once
+tab-rises : (n : ℕ) (f : ℕ → ℕ) → ((i j : ℕ) → i < j → f i < f j) → {a b : ℕ} → Before a b (tab n f) → a < b
+tab-rises zero f h r = absurd (before-nil r)
+tab-rises (suc n) f h {a} {b} r =
+    ⊎-elim (λ q. let m = tab-member n (λ k. f (suc k)) (q .1) in let x = h zero (suc (m .0)) (zero-lt-suc (m .0)) in let y = q .0 in let z = m .2 in omega arith)
+    (tab-rises n (λ k. f (suc k)) (λ i j q. h (suc i) (suc j) (suc-le-suc q)))
+    (before-cons (subst (λ (l : List ℕ). Before a b l) (tab-suc n f) r))
+
+pub upto-rises : {a b : ℕ} (n : ℕ) → Before a b (upto n) → a < b
+upto-rises n r = tab-rises n (λ k. k) (λ i j q. q) r
+
+pub upto-once : (n : ℕ) → Once (upto n)
+upto-once n = once-if (upto n) (λ x r. let q = upto-rises n r in omega arith)
+
 -- ---- a number as its half and its lowest mark
 
 -- a mark as a digit
@@ -138,6 +152,9 @@ pub bit-zero : (k : ℕ) → bit 0 k ≡ false
 unfolding bit
 bit-zero k = ap (λ (x : ℕ). eqb (x % 2) 1) (zero-div (2 ^ k))
 
+pub bit-none : {n : ℕ} (k : ℕ) → n ≡ 0 → bit n k ≡ false
+bit-none k e = ap (λ (x : ℕ). bit x k) e ∙ bit-zero k
+
 pow-made : (j : ℕ) → 2 ^ suc j ≡ 2 ^ j * 2 + digit false
 pow-made j = pow-suc 2 j ∙ sym (add-zero (2 ^ j * 2))
 
@@ -150,7 +167,7 @@ bit-pow (suc j) (suc k) = bit-high (2 ^ j) false k (pow-made j) ∙ bit-pow j k 
 
 -- no mark stands at or above the width
 pub bit-above : (w n k : ℕ) → n < 2 ^ w → w ≤ k → bit n k ≡ false
-bit-above zero n k h q = ap (λ (x : ℕ). bit x k) (lt-one h) ∙ bit-zero k
+bit-above zero n k h q = bit-none k (lt-one h)
 bit-above (suc w) n zero h q = absurd (not-suc-le-zero q)
 bit-above (suc w) n (suc k) h q = bit-suc n k ∙ bit-above w (n / 2) k (half-lt w h) (le-of-suc-le-suc q)
 
@@ -166,7 +183,7 @@ bit-same (suc w) a b ha hb h =
 
 -- a number that has a mark is not 0, and one that has none is
 pub bit-nonzero : (n k : ℕ) → T (bit n k) → n ≡ 0 → ⊥
-bit-nonzero n k t e = false-is (ap (λ (x : ℕ). bit x k) e ∙ bit-zero k) t
+bit-nonzero n k t e = false-is (bit-none k e) t
 
 pub no-bits : (w n : ℕ) → n < 2 ^ w → ((k : ℕ) → k < w → bit n k ≡ false) → n ≡ 0
 no-bits w n h f = bit-same w n 0 h (pow-pos w) (λ k q. f k q ∙ sym (bit-zero k))
@@ -222,6 +239,13 @@ either-test a b k = or-bit a b k (own-test (bit a k)) (own-test (bit b k))
 
 pub both-test : (a b k : ℕ) → Decides (bit (bitAnd a b) k) (T (bit a k) × T (bit b k))
 both-test a b k = and-bit a b k (own-test (bit a k)) (own-test (bit b k))
+
+-- where the parts lack a mark, so does what is made of them
+pub or-unmarked : (x y i : ℕ) → bit x i ≡ false → bit y i ≡ false → bit (bitOr x y) i ≡ false
+or-unmarked x y i p q = bit-or x y i ∙ ap₂ _||_ p q
+
+pub and-unmarked : (x y i : ℕ) → bit x i ≡ false → bit (bitAnd x y) i ≡ false
+and-unmarked x y i p = bit-and x y i ∙ ap (λ (b : Bool). b && bit y i) p
 
 -- the complement within w marks has those that n has not
 others-made : (w n : ℕ) → n < 2 ^ suc w → 2 ^ suc w - 1 - n ≡ (2 ^ w - 1 - n / 2) * 2 + digit (not (bit n 0))
@@ -281,6 +305,20 @@ without-le n s = go (bit n s)
 pub without-lt : (n s : ℕ) → T (bit n s) → without n s + 2 ^ s ≡ n
 unfolding without
 without-lt n s t = ap (λ (b : Bool). cond b (n - 2 ^ s) n + 2 ^ s) (test-true (own-test (bit n s)) t) ∙ sub-add-cancel (bit-le n s t)
+
+pub without-below : (x s w : ℕ) → x < 2 ^ w → without x s < 2 ^ w
+without-below x s w q = lt-of-le-of-lt (without-le x s) q
+
+-- nothing is taken out of 0
+pub without-zero : (x s : ℕ) → x ≡ 0 → without x s ≡ 0
+without-zero x s e = let p = without-le x s in omega arith
+
+-- the mark is not there then, and no other is that was not
+pub without-struck : (x s : ℕ) → bit (without x s) s ≡ false
+without-struck x s = bit-without x s s ∙ test-false (and-test (own-test (bit x s)) (not-test (eq-test s s))) (λ r. r .1 refl)
+
+pub without-unmarked : (x s i : ℕ) → bit x i ≡ false → bit (without x s) i ≡ false
+without-unmarked x s i p = bit-without x s i ∙ ap (λ (b : Bool). b && not (eqb i s)) p
 
 -- ---- masks
 
@@ -396,6 +434,9 @@ lowest-mark w n h ne = let a = by-lowest At at-odd at-even w n h ne in record { 
 pub nonzero-bit : (w n : ℕ) → n < 2 ^ w → (n ≡ 0 → ⊥) → (k : ℕ) × (k < w) × T (bit n k)
 nonzero-bit w n h ne = let l = lowest-mark w n h ne in (trailingZeros w n, l .inside, l .there)
 
+pub nonzero-test : (w n : ℕ) → n < 2 ^ w → Decides (not (eqb n 0)) ((k : ℕ) × (k < w) × T (bit n k))
+nonzero-test w n h = read-as (not-test (eq-test n 0)) (nonzero-bit w n h) (λ r. bit-nonzero n (r .0) (r .2))
+
 -- ---- the count of marks
 
 -- how many members pass: one more where the first passes
@@ -429,16 +470,26 @@ ones-count (suc w) n h =
 
 -- ---- as the code has it
 
+-- 1 << s, at a width above s: nothing is shifted out
+pub shl-one : {s : ℕ} (w : ℕ) → s < w → 1 * 2 ^ s % 2 ^ w ≡ 2 ^ s
+shl-one {s} w h = shl-exact {a = 1} 1 s w (lit< tt) (omega arith) ∙ one-mul (2 ^ s)
+
+-- n | (1 << s): a mark put in
+pub bit-put : (w n s k : ℕ) → s < w → bit (bitOr n (1 * 2 ^ s % 2 ^ w)) k ≡ bit n k || eqb k s
+bit-put w n s k h = ap (λ (m : ℕ). bit (bitOr n m) k) (shl-one w h) ∙ bit-or n (2 ^ s) k ∙ ap (λ (b : Bool). bit n k || b) (bit-pow s k)
+
+-- !(1 << s): every mark but one
+pub bit-rest : (w s k : ℕ) → s < w → k < w → bit (2 ^ w - 1 - 1 * 2 ^ s % 2 ^ w) k ≡ not (eqb k s)
+bit-rest w s k h q = ap (λ (m : ℕ). bit (2 ^ w - 1 - m) k) (shl-one w h) ∙ bit-others w (2 ^ s) k (pow-lt h) q ∙ ap not (bit-pow s k)
+
 -- n & !(1 << s): a mark taken out
-pub and-others : (w n s : ℕ) → n < 2 ^ w → s < w → bitAnd n (2 ^ w - 1 - 2 ^ s) ≡ without n s
-and-others w n s h q = bit-same w (bitAnd n rest) (without n s) (lt-of-le-of-lt (and-le-l n rest) h) (lt-of-le-of-lt (without-le n s) h) marks
+pub and-others : (w n s : ℕ) → n < 2 ^ w → s < w → bitAnd n (2 ^ w - 1 - 1 * 2 ^ s % 2 ^ w) ≡ without n s
+and-others w n s h q =
+    bit-same w (bitAnd n rest) (without n s) (lt-of-le-of-lt (and-le-l n rest) h) (lt-of-le-of-lt (without-le n s) h)
+    (λ k r. bit-and n rest k ∙ ap (λ (b : Bool). bit n k && b) (bit-rest w s k q r) ∙ sym (bit-without n s k))
   where
     rest : ℕ
-    rest = 2 ^ w - 1 - 2 ^ s
-
-    marks : (k : ℕ) → k < w → bit (bitAnd n rest) k ≡ bit (without n s) k
-    marks k r =
-        bit-and n rest k ∙ ap (λ (b : Bool). bit n k && b) (bit-others w (2 ^ s) k (pow-lt q) r ∙ ap not (bit-pow s k)) ∙ sym (bit-without n s k)
+    rest = 2 ^ w - 1 - 1 * 2 ^ s % 2 ^ w
 
 -- n & (n - 1): the lowest mark taken out
 pred-odd : (h : ℕ) → bitAnd (h * 2 + 1) (h * 2 + 1 - 1) ≡ without (h * 2 + 1) 0
@@ -454,7 +505,7 @@ pred-even h t ne r =
 pub and-pred : (w n : ℕ) → n < 2 ^ w → (n ≡ 0 → ⊥) → bitAnd n (n - 1) ≡ without n (trailingZeros w n)
 and-pred = by-lowest (λ w n t. bitAnd n (n - 1) ≡ without n t) (λ w. pred-odd) (λ w. pred-even)
 
--- n & (1 << s) is 0 exactly where the mark s is not there
+-- n & (1 << s) is 0 exactly where the mark s is not there, and not 0 exactly where it is
 pub and-mark : (n s : ℕ) → eqb (bitAnd n (2 ^ s)) 0 ≡ not (bit n s)
 and-mark n s = same-test (eq-test (bitAnd n (2 ^ s)) 0) (not-test (own-test (bit n s))) gone none
   where
@@ -468,3 +519,6 @@ and-mark n s = same-test (eq-test (bitAnd n (2 ^ s)) 0) (not-test (own-test (bit
     none f =
         no-bits (suc s) (bitAnd n (2 ^ s)) (lt-of-le-of-lt (and-le-r n (2 ^ s)) (pow-lt (le-refl (suc s))))
         (λ k q. marks k ∙ test-false (and-test (own-test (bit n k)) (eq-test k s)) (λ r. f (subst (λ (x : ℕ). T (bit n x)) (r .1) (r .0))))
+
+pub test-mark : (n s : ℕ) → not (eqb (bitAnd n (2 ^ s)) 0) ≡ bit n s
+test-mark n s = ap not (and-mark n s) ∙ Bool·not-not (bit n s)

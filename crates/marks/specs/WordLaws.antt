@@ -1,24 +1,24 @@
 -- The laws of sets made of words, over any width and any number of words.
 --
--- In order: the word of a mark and its place in it (`marked-at`: the mark i * width + k is mark k of word i); the marks of a set that gains one, and
--- of a union; the tests of words (`overlap-words`, `empty-words`) and, from them, the tests of marks; sets with the same marks are the same words.
+-- In order: the word of a mark and its place in it (`marked-at`: the mark i * width + k is mark k of word i); the marks of a set that gains
+-- or loses one, and of a union; the tests of words (`overlap-words`, `empty-words`) and, from them, the tests of marks; sets with the same marks are the same words.
 -- Assumes nothing.
 use mathlib.Core.Path.{_≡_, refl, sym, ap, ap₂, _∙_, subst}
 use mathlib.Core.Logic.{_⊎_, inl, inr, ⊎-elim}
-use mathlib.Core.Bool.{Bool, _||_, or-false}
+use mathlib.Core.Bool.{Bool, false, not, _&&_, _||_, or-false, and-true}
 use mathlib.Core.List.{List, [], _∷_}
 use Prim.Native.Nat.{ℕ, zero, suc, _+_, _*_, _/_, _%_, _^_, _<_, suc-le-suc}
 use native.Mathlib.Nat.{suc-inj, suc-ne-zero, mul-comm, div-add-mod', div-lt-iff-lt-mul, not-suc-le-zero, le-of-suc-le-suc, zero-lt-suc, lt-of-le-of-lt}
 use lib.Arith.{digits-lt, digits-div, digits-mod}
 use lib.Bits.{bitOr, bitAnd, and-zero-r, and-le-l}
 use lib.Dec.{T, eqb}
-use lib.ListN.{length, getD}
+use lib.ListN.{length, getD, set}
 use lib.Pow.{pow-pos}
 use lib.Seq.{ext-getD, getD-set-same, getD-set-other}
 use Rattle.graph.specs.Decide.{Decides, is-false, answer, read-as, same-test, eq-test, and-test, or-test, not-test, test-false}
 use Rattle.graph.specs.Lists.{_∈_, here, later}
-use Rattle.marks.specs.MarkLaws.{bit-or, both-test, bit-pow, bit-same, bit-nonzero, no-bits, nonzero-bit}
-use Rattle.marks.specs.Marks.{bit}
+use Rattle.marks.specs.MarkLaws.{bit-none, bit-or, both-test, bit-pow, bit-without, bit-same, bit-nonzero, no-bits, nonzero-bit}
+use Rattle.marks.specs.Marks.{bit, without}
 use Rattle.marks.specs.Words.{marked, with-mark, union, overlap, empty}
 
 -- every word fits the width
@@ -45,30 +45,49 @@ pub marked-at : {width k : ℕ} (ws : List ℕ) (i : ℕ) → k < width → mark
 unfolding marked
 marked-at ws i q = ap₂ (λ (j m : ℕ). bit (getD ws j 0) m) (digits-div i q) (digits-mod i q)
 
+-- a word that is 0 has none
+pub marked-none : (width : ℕ) (ws : List ℕ) (c : ℕ) → getD ws (c / width) 0 ≡ 0 → marked width ws c ≡ false
+unfolding marked
+marked-none width ws c e = bit-none (c % width) e
+
 -- ---- the marks of a set that is made of others
+
+-- One mark changes: the word of the mark c is replaced by one with the same marks but for c's own.
+module _ (width : ℕ) (ws : List ℕ) (c : ℕ) (p : 0 < width) (h : c < width * length ws) where
+  one-mark : (g : Bool → Bool → Bool) → ((b : Bool) → g b false ≡ b) → (v : ℕ) → ((k : ℕ) → bit v k ≡ g (bit (getD ws (c / width) 0) k) (eqb k (c % width)))
+      → (x : ℕ) → marked width (set ws (c / width) v) x ≡ g (marked width ws x) (eqb x c)
+  unfolding marked
+  one-mark g keeps v new x = ⊎-elim same apart (answer (eq-test (x / width) (c / width)))
+    where
+      place : x / width ≡ c / width → x % width ≡ c % width → x ≡ c
+      place e q = sym (div-add-mod' x width) ∙ ap₂ (λ (i k : ℕ). i * width + k) e q ∙ div-add-mod' c width
+
+      same : x / width ≡ c / width → marked width (set ws (c / width) v) x ≡ g (marked width ws x) (eqb x c)
+      same e =
+          ap (λ (w : ℕ). bit w (x % width)) (ap (λ (i : ℕ). getD (set ws (c / width) v) i 0) e ∙ getD-set-same ws (c / width) v 0 (word-lt (length ws) p h))
+          ∙ new (x % width)
+          ∙ ap₂ g (ap (λ (i : ℕ). bit (getD ws i 0) (x % width)) (sym e))
+          (same-test (eq-test (x % width) (c % width)) (eq-test x c) (place e) (ap (λ (y : ℕ). y % width)))
+
+      apart : (x / width ≡ c / width → ⊥) → marked width (set ws (c / width) v) x ≡ g (marked width ws x) (eqb x c)
+      apart f =
+          ap (λ (w : ℕ). bit w (x % width)) (getD-set-other ws (c / width) (x / width) v 0 f) ∙ sym (keeps (marked width ws x))
+          ∙ ap (g (marked width ws x)) (sym (test-false (eq-test x c) (λ e. f (ap (λ (y : ℕ). y / width) e))))
 
 -- a set gains the one mark and no other
 pub marked-with : (width : ℕ) (ws : List ℕ) (c x : ℕ) → 0 < width → c < width * length ws → marked width (with-mark width ws c) x ≡ marked width ws x || eqb x c
-unfolding marked with-mark
-marked-with width ws c x p h = ⊎-elim same apart (answer (eq-test (x / width) (c / width)))
-  where
-    new : ℕ
-    new = bitOr (getD ws (c / width) 0) (2 ^ (c % width))
+unfolding with-mark
+marked-with width ws c x p h =
+    let w = getD ws (c / width) 0 in
+    one-mark width ws c p h _||_ or-false (bitOr w (2 ^ (c % width)))
+    (λ k. bit-or w (2 ^ (c % width)) k ∙ ap (λ (b : Bool). bit w k || b) (bit-pow (c % width) k)) x
 
-    place : x / width ≡ c / width → x % width ≡ c % width → x ≡ c
-    place e q = sym (div-add-mod' x width) ∙ ap₂ (λ (i k : ℕ). i * width + k) e q ∙ div-add-mod' c width
-
-    same : x / width ≡ c / width → marked width (with-mark width ws c) x ≡ marked width ws x || eqb x c
-    same e =
-        ap (λ (w : ℕ). bit w (x % width)) (ap (λ (i : ℕ). getD (with-mark width ws c) i 0) e ∙ getD-set-same ws (c / width) new 0 (word-lt (length ws) p h))
-        ∙ bit-or (getD ws (c / width) 0) (2 ^ (c % width)) (x % width)
-        ∙ ap₂ (λ (a b : Bool). a || b) (ap (λ (i : ℕ). bit (getD ws i 0) (x % width)) (sym e))
-        (bit-pow (c % width) (x % width) ∙ same-test (eq-test (x % width) (c % width)) (eq-test x c) (place e) (ap (λ (y : ℕ). y % width)))
-
-    apart : (x / width ≡ c / width → ⊥) → marked width (with-mark width ws c) x ≡ marked width ws x || eqb x c
-    apart f =
-        ap (λ (w : ℕ). bit w (x % width)) (getD-set-other ws (c / width) (x / width) new 0 f) ∙ sym (or-false (marked width ws x))
-        ∙ ap (λ (b : Bool). marked width ws x || b) (sym (test-false (eq-test x c) (λ e. f (ap (λ (y : ℕ). y / width) e))))
+-- and loses the one mark and no other
+pub marked-without : (width : ℕ) (ws : List ℕ) (c x : ℕ) → 0 < width → c < width * length ws
+    → marked width (set ws (c / width) (without (getD ws (c / width) 0) (c % width))) x ≡ marked width ws x && not (eqb x c)
+marked-without width ws c x p h =
+    let w = getD ws (c / width) 0 in
+    one-mark width ws c p h (λ a b. a && not b) and-true (without w (c % width)) (bit-without w (c % width)) x
 
 -- a union has the marks of either, word by word
 union-at : (ws vs : List ℕ) (i : ℕ) → length ws ≡ length vs → getD (union ws vs) i 0 ≡ bitOr (getD ws i 0) (getD vs i 0)

@@ -1,25 +1,23 @@
--- The lister's answer by its ways out, and that its code and place are small.
+-- The lister's answer by its ways out.
 -- Assumes nothing.
 use mathlib.Core.Path.{_≡_, refl, sym, ap, ap₂, _∙_}
 use mathlib.Core.Bool.{Bool, cond}
 use mathlib.Core.Option.{Option, none, some}
 use mathlib.Core.List.{List, [], _++_}
-use Prim.Native.Nat.{ℕ, _/_, _≤_, _<_}
-use native.Mathlib.Omega.{arith}
+use Prim.Native.Nat.{ℕ, _≤_, _<_}
 use borrow.Author.Tests.{lt-ltb, le-ltb}
 use lib.Dec.{ltb}
-use lib.ListN.{length, drop}
+use lib.ListN.{length, take, drop}
 use Rattle.history.specs.Events.{History, kept}
 use Rattle.history.specs.Orders.{order-of}
 use Rattle.history.specs.OrderLaws.{order-accepted}
 use Rattle.history.specs.Turns.{Turns}
 use Rattle.verdicts.specs.Logs.{Reading, faulty, events, read-log}
 use Rattle.verdicts.specs.Verdicts.{Listed, refused, written, listed, list-of, list-order}
-use Rattle.verdicts.specs.VerdictLaws.{accepted-length, ListedAs, no-room, no-order, an-order, Answered, list-right}
+use Rattle.verdicts.specs.VerdictLaws.{accepted-length}
 use Rattle.orders.specs.Checks.{answered}
 use Rattle.orders.specs.declared.Listed.{Listed as Answer}
 use Rattle.orders.specs.declared.Listed.the-variants.{Done, Length, Form, Turn, TooMany, NoOrder, Short}
-use Rattle.orders.proofs.CheckLaws.{log-size, fault-known, kept-length}
 
 pub list-faulty : (bytes lent : List ℕ) {c p : ℕ} → read-log bytes ≡ faulty c p → list-order bytes lent ≡ refused c p lent
 unfolding list-order
@@ -43,29 +41,14 @@ module _ (bytes lent : List ℕ) (h : History) (read : read-log bytes ≡ events
     pub list-none : order-of h ≡ none → list-order bytes lent ≡ refused 17 0 lent
     list-none e = with-room ∙ ap (λ (o : Option (List ℕ)). written o lent) e
 
-    -- an order is as long as there are kept jobs; r is their count, and `now` what stands in the list
-    pub list-done : Turns h → {o now : List ℕ} {r : ℕ} → order-of h ≡ some o → r ≡ length (kept h) → now ≡ o ++ drop r lent
+    -- the order stands in `order`, and as many of its entries as there are kept jobs in the list; r is their count, and `now` what stands in the list
+    pub list-done : Turns h → (order : List ℕ) {now : List ℕ} {r : ℕ} → order-of h ≡ some (take (length (kept h)) order) → r ≡ length (kept h) → now ≡ take r order ++ drop r lent
         → record { code = 0; place = r; list = now } ≡ list-order bytes lent
-    list-done t {o} {now} {r} e many stands =
+    list-done t order {now} {r} e many stands =
+        let o = take (length (kept h)) order in
         let z : r ≡ length o = many ∙ sym (accepted-length h t (order-accepted h t e)) in
-        ap₂ (λ (n : ℕ) (l : List ℕ). record { code = 0; place = n; list = l }) z (stands ∙ ap (λ (n : ℕ). o ++ drop n lent) z)
+        ap₂ (λ (n : ℕ) (l : List ℕ). record { code = 0; place = n; list = l }) z (stands ∙ ap₂ (λ (m n : ℕ). take m order ++ drop n lent) many z)
         ∙ sym (with-room ∙ ap (λ (o : Option (List ℕ)). written o lent) e)
-
-pub record SmallList (bytes : List ℕ) (a : Listed) : Type 0 where
-  pub code : a .code ≤ 18
-  pub place : a .place ≤ length bytes
-
-pub list-small : (bytes lent : List ℕ) → SmallList bytes (list-order bytes lent)
-list-small bytes lent = go (list-right bytes lent)
-  where
-    by-answer : {h : History} {a : Listed} → length h ≡ length bytes / 8 → ListedAs h lent a → SmallList bytes a
-    by-answer {h} e (no-room q) = let k = kept-length h in record { code = omega arith; place = omega arith }
-    by-answer e (no-order q c) = record { code = omega arith; place = omega arith }
-    by-answer {h} e (an-order q f a l) = let k = kept-length h in record { code = omega arith; place = omega arith }
-
-    go : {a : Listed} → Answered bytes lent a → SmallList bytes a
-    go (Answered.log-faulty e) = let k = fault-known bytes e in let x = k .upto in let y = k .inside in record { code = omega arith; place = omega arith }
-    go (Answered.log-read {h = h} e t j) = by-answer (log-size bytes h e .whole) j
 
 -- ---- what an answer is numbered, whatever stands in the list
 

@@ -14,10 +14,10 @@ use lib.ListN.{length, drop, getD, getElem?}
 use Rattle.graph.specs.Decide.{or-test, not-test, eq-test, lt-test, test-true, test-false}
 use Rattle.history.specs.Events.{History, opened}
 use Rattle.history.specs.Formats.{records}
+use Rattle.history.specs.RecordLaws.{drop-record, drop-none, record-none}
 use Rattle.history.specs.Replies.{Request, want, event-of}
 use Rattle.verdicts.specs.Logs.{record-bytes, most-bytes, fault-of, Reading, faulty, events, read-from, read-log}
 use Rattle.tallies.specs.Jobs.{Taken, Takes}
-use Rattle.reader.specs.RecordLaws.{drop-record, drop-none, record-none}
 
 -- the events so far, and what is left
 pub record Along (bytes : List ℕ) (i : ℕ) (numbers states told : List ℕ) (count : ℕ) : Type 0 where

@@ -1,16 +1,15 @@
 // The checker of a proposed order, and the lister of one.
 ghost use mathlib.Core.Path.{_≡_};
 ghost use mathlib.Core.Bool.{true, false, cond};
-ghost use mathlib.Core.Option.{none, some};
+ghost use mathlib.Core.Option.{none};
 ghost use mathlib.Core.List.{List, [], _++_};
 ghost use Prim.Native.Nat.{ℕ, _+_, _*_, _≤_, _<_};
-ghost use lib.Dec.{ltb};
+ghost use lib.Dec.{leb};
 ghost use lib.ListN.{length, take, drop};
 ghost use Rattle.history.specs.Events.{History, opened, kept, kept-steps};
-ghost use Rattle.history.specs.Orders.{order-of};
 ghost use Rattle.verdicts.specs.Verdicts.{first-bad, missing, first-backward, check, list-order};
 ghost use Rattle.tallies.specs.Jobs.{Rises, Finds, Jobs, Blank, Taken, Takes};
-ghost use Rattle.tallies.specs.Places.{Placed, found-at};
+ghost use Rattle.tallies.specs.Places.{Placed, found-at, Lists};
 ghost use Rattle.tallies.specs.Marks.{mark, Put, Struck, Joined, LowestMark, Common, Preceded, KeptMarks, Settled, Only, In-word, Sorted};
 ghost use Rattle.orders.specs.Checks.{numbered, answered, request, Reads, Keeps};
 use reader::Next;
@@ -61,6 +60,14 @@ impl Checked {
 
 // ---- the jobs of a log
 
+// How far a search goes up: `half` where the number is at most the job's, and else not at all. The quotient is 1 or 0: of a test the compiler makes a branch,
+// which is mispredicted every other time.
+fn go_up(half: usize, number: u32, job: u32) -> usize
+    ensures { λ r. ⌜ (r ≤ half) × (r ≡ cond (leb number job) half 0) ⌝ }
+{
+    half * ((4294967296 + job as usize - number as usize) / 4294967296)
+}
+
 // Where the job stands among the first `count` numbers, which rise; `count` where it does not.
 fn halve(numbers: &[u32; 512], count: usize, job: u32) -> usize
     requires { ⌜ count ≤ 512 ⌝ }
@@ -68,14 +75,11 @@ fn halve(numbers: &[u32; 512], count: usize, job: u32) -> usize
 {
     let all = &numbers[..];
     let mut low: usize = 0;
-    let mut high: usize = count;
-    while low < high {
-        let middle = low + (high - low) / 2;
-        if all[middle] < job {
-            low = middle + 1;
-        } else {
-            high = middle;
-        }
+    let mut size: usize = count;
+    while 1 < size {
+        let half = size / 2;
+        low += go_up(half, all[low + half], job);
+        size -= half;
     }
     if low < count {
         if all[low] == job {
@@ -654,20 +658,22 @@ fn place_job(
     }
 }
 
-// The order of so many jobs, the lowest ready one first; how many could be placed.
+// The order of so many jobs, the lowest ready one first, and the places of those that could be placed.
 fn list_jobs(
     preds: &[u64; 4096],
     numbers: &[u32; 512],
     jobs: usize,
     left: &mut [u64; 8],
     order: &mut [u32; 512],
-) -> usize
+    placed: &mut [usize; 512],
+)
     requires { ⌜ jobs ≤ 512 ⌝ }
-    ensures { λ r. ⌜ (r ≤ jobs) × ((h : History) (states : List ℕ) (count : ℕ) → Jobs h (now (numbers .entry)) states count → Preceded h count (now (preds .entry)) → KeptMarks h count (now (left .entry)) → jobs ≡ length (kept h)
-        → order-of h ≡ cond (ltb r jobs) none (some (take jobs (now (order .exit))))) ⌝ }
+    ensures { λ _. ⌜ ((h : History) (states : List ℕ) (count : ℕ) → Jobs h (now (numbers .entry)) states count → Preceded h count (now (preds .entry)) → KeptMarks h count (now (left .entry)) → jobs ≡ length (kept h)
+        → Blank (now (placed .entry)) → Lists h count (now (order .exit)) (now (placed .exit))) ⌝ }
 {
     let all = &numbers[..];
-    let places = &mut order[..];
+    let entries = &mut order[..];
+    let places = &mut placed[..];
     let mut ready: [u64; 8] = [0; 8];
     let mut waiting: [u64; 4096] = [0; 4096];
     sort(preds, left, &mut ready, &mut waiting);
@@ -675,13 +681,13 @@ fn list_jobs(
     while n < jobs {
         let job = lowest_mark(&ready);
         if job == 512 {
-            return n;
+            return;
         }
-        places[n] = all[job];
+        entries[n] = all[job];
+        places[job] = n + 1;
         place_job(preds, left, &mut ready, &mut waiting, job);
         n += 1;
     }
-    n
 }
 
 // What the lister answers: the count of kept jobs, or one of the refusals with its place.
@@ -763,8 +769,9 @@ pub fn list_order(log: &[u8], out: &mut [u32]) -> Listed
             let mut preds: [u64; 4096] = [0; 4096];
             gather(&told, log.len() / 8, &states, &mut preds);
             let mut order: [u32; 512] = [0; 512];
-            let placed = list_jobs(&preds, &numbers, kept, &mut left, &mut order);
-            if placed < kept {
+            let mut placed: [usize; 512] = [0; 512];
+            list_jobs(&preds, &numbers, kept, &mut left, &mut order, &mut placed);
+            if let Kept::Missing = all_placed(&states, &placed, count) {
                 return Listed::NoOrder;
             }
             copy_out(&order, kept, out);

@@ -6,16 +6,14 @@ use mathlib.Core.Path.{_≡_, refl, sym, ap, _∙_, subst}
 use mathlib.Core.Logic.{_⊎_, inl, inr, ⊎-elim}
 use mathlib.Core.Bool.{Bool, false, not, _&&_, _||_}
 use mathlib.Core.List.{List, [], _∷_, _++_, append-nil, append-assoc, List·Memᴰ·not-nil, List·Memᴰ·append-cases, Memᴰ·append-left, Memᴰ·append-right, List·Memᴰ·eq-of-singleton}
-use Prim.Native.Nat.{ℕ, suc, _+_, _*_, _/_, _%_, _≤_, _<_}
+use Prim.Native.Nat.{ℕ, suc, _+_, _*_, _/_, _≤_, _<_}
 use native.Mathlib.Numerals.{add-one}
 use native.Mathlib.Omega.{arith}
 use lib.Dec.{T, eqb}
 use lib.ListN.{length, getD, replicate, getD-replicate}
 use Rattle.graph.specs.Decide.{Decides, and-test, or-test, not-test, eq-test, lt-test, read-as, same-test, test-true, test-false, false-is}
 use Rattle.graph.specs.Lists.{_∈_, here, only-yes, only-no, before-nil, before-cons, before-in-left, before-across, before-append}
-use Rattle.marks.specs.Marks.{bit}
-use Rattle.marks.specs.MarkLaws.{bit-zero}
-use Rattle.marks.specs.Words.{marked}
+use Rattle.marks.specs.WordLaws.{marked-none}
 use Rattle.history.specs.Events.{Kind, read, write, clash, alters, History, has, opened, abandoned, Step, steps-from, all-steps, kept-steps, Precedes}
 use Rattle.history.specs.EventLaws.{precedes-in, no-self, precedes-test}
 use Rattle.history.specs.Memory.{same-kind}
@@ -49,23 +47,19 @@ pub record Sets (jobs : List ℕ) (s : List Step) (preds readers writers : List 
   pub writes : Seen jobs s write writers
 
 -- nothing is marked yet
-blank-mark : (words : List ℕ) (x : ℕ) → getD words (x / 64) 0 ≡ 0 → marked 64 words x ≡ false
-unfolding marked
-blank-mark words x z = ap (λ (w : ℕ). bit w (x % 64)) z ∙ bit-zero (x % 64)
-
 never : {A : Type 0} {b : Bool} → b ≡ false → (A → ⊥) → Decides b A
 never e f = record { holds = λ t. absurd (false-is e t); shows = λ a. absurd (f a) }
 
 pub sets-start : (jobs preds : List ℕ) → ((x : ℕ) → getD preds x 0 ≡ 0) → Sets jobs [] preds (replicate 2048 0) (replicate 2048 0)
 sets-start jobs preds z =
     record {
-      ahead = λ j i p q. never (blank-mark preds (j * 512 + i) (z ((j * 512 + i) / 64))) (λ r. before-nil (r .1 .in-order));
+      ahead = λ j i p q. never (marked-none 64 preds (j * 512 + i) (z ((j * 512 + i) / 64))) (λ r. before-nil (r .1 .in-order));
       reads = none read;
       writes = none write;
     }
   where
     none : (k : Kind) → Seen jobs [] k (replicate 2048 0)
-    none k c i p q = never (blank-mark (replicate 2048 0) (c * 512 + i) (getD-replicate 2048 ((c * 512 + i) / 64) 0 0 (omega arith))) (λ r. List·Memᴰ·not-nil (r .1 .among))
+    none k c i p q = never (marked-none 64 (replicate 2048 0) (c * 512 + i) (getD-replicate 2048 ((c * 512 + i) / 64) 0 0 (omega arith))) (λ r. List·Memᴰ·not-nil (r .1 .among))
 
 -- ---- one step more
 

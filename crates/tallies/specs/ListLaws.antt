@@ -1,22 +1,21 @@
 -- The lowest-first order, job by job.
 --
 -- `Underway h count left n order`: the first n entries of `order` are the first n of the lowest-first order of the kept jobs, and `left` has the places of the jobs
--- that are not placed yet. In order: the start; what the marks of a row say (`of-row`, `to-row`); a turn; where no job is ready, a circle; the end.
+-- that are not placed yet. In order: the start; what the marks of a row say (`of-row`, `to-row`); a turn, and the place that it notes; where no job is ready, a circle; the end.
 -- Assumes nothing.
 use mathlib.Core.Path.{_≡_, refl, sym, ap, _∙_, subst}
 use mathlib.Core.Logic.{⊎-elim}
-use mathlib.Core.Bool.{Bool, true, false, not, cond}
+use mathlib.Core.Bool.{true, false, not}
 use mathlib.Core.Option.{Option, none, some}
-use mathlib.Core.List.{List, [], _∷_, _++_, append-nil, append-assoc, List·Memᴰ·cases-cons, Memᴰ·cast}
+use mathlib.Core.List.{List, [], _∷_, _++_, append-nil, append-assoc, List·Memᴰ·not-nil, List·Memᴰ·cases-cons, List·Memᴰ·append-cases, List·Memᴰ·eq-of-singleton, Memᴰ·cast}
 use Prim.Native.Nat.{ℕ, suc, _+_, _≤_, _<_}
 use native.Mathlib.Numerals.{add-one}
 use native.Mathlib.Omega.{arith}
-use borrow.Author.Tests.{lt-ltb, le-ltb}
-use lib.Dec.{ltb, eqb}
-use lib.ListN.{length, getD, take, set}
-use lib.Seq.{take-suc-set}
-use Rattle.graph.specs.Decide.{true-is, answer, and-test, not-test, eq-test, lt-test, test-true}
-use Rattle.graph.specs.Lists.{_∈_, here, later, before-from-only, Once, more, once-if, once-irreflexive, once-length, strike, strike-keeps, strike-from}
+use lib.Dec.{eqb}
+use lib.ListN.{length, getD, take, set, length-take}
+use lib.Seq.{length-take-le, take-suc-set}
+use Rattle.graph.specs.Decide.{true-is, answer, and-test, not-test, eq-test, lt-test, test-true, test-false}
+use Rattle.graph.specs.Lists.{_∈_, here, later, before-from-only, Once, more, once-if, once-irreflexive, once-le, once-length, strike, strike-keeps, strike-from}
 use Rattle.graph.specs.Walk.{one}
 use Rattle.graph.specs.Listing.{Ready, LowestFirst, done, next}
 use Rattle.graph.specs.ListingLaws.{stuck}
@@ -26,9 +25,11 @@ use Rattle.history.specs.Orders.{order-of}
 use Rattle.history.specs.OrderLaws.{lowest-order, order-accepted, accepted-no-circle}
 use Rattle.history.specs.Turns.{Turns}
 use Rattle.history.specs.TurnLaws.{has-test, kept-from, kept-if}
-use Rattle.verdicts.specs.VerdictLaws.{kept-once}
+use Rattle.verdicts.specs.VerdictLaws.{missing-test, kept-once}
 use Rattle.tallies.specs.Jobs.{Jobs}
 use Rattle.tallies.specs.Marks.{mark, in-row, Struck, LowestMark, Preceded, KeptMarks, Sorted}
+use Rattle.tallies.specs.Places.{Placed, Lists}
+use Rattle.tallies.specs.PlaceLaws.{placed-more}
 use Rattle.tallies.specs.TableLaws.{at-member, member-at, opened-rise}
 use Rattle.tallies.specs.SortLaws.{not-both, struck-from, struck-keeps}
 
@@ -46,9 +47,11 @@ strike-one {j} {l} o m =
     (λ x n. ⊎-elim (λ e. Memᴰ·cast e here) (λ f. later (strike-keeps n f)) (answer (eq-test x j)))
 
 -- one entry more
+entry-new : (order : List ℕ) (n j : ℕ) → n < length order → take (n + 1) (set order n j) ≡ take n order ++ j ∷ []
+entry-new order n j h = ap (λ (k : ℕ). take k (set order n j)) (add-one n) ∙ take-suc-set order n j h
+
 entry-more : (order : List ℕ) (n j : ℕ) (q : List ℕ) → n < length order → take (n + 1) (set order n j) ++ q ≡ take n order ++ j ∷ q
-entry-more order n j q h =
-    ap (λ (k : ℕ). take k (set order n j) ++ q) (add-one n) ∙ ap (λ (l : List ℕ). l ++ q) (take-suc-set order n j h) ∙ append-assoc (take n order) (j ∷ []) q
+entry-more order n j q h = ap (λ (l : List ℕ). l ++ q) (entry-new order n j h) ∙ append-assoc (take n order) (j ∷ []) q
 
 -- what the lowest mark says
 module _ (words : List ℕ) (r : ℕ) (f : LowestMark words r) where
@@ -65,6 +68,7 @@ pub record Underway (h : History) (count : ℕ) (left : List ℕ) (n : ℕ) (ord
   pub once : Once rest
   pub inside : (i : ℕ) → i < 512 → mark left i ≡ true → (i < count) × (getD (opened h) i 0 ∈ rest)
   pub from : (j : ℕ) → j ∈ rest → (i : ℕ) × (i < 512) × (mark left i ≡ true) × (getD (opened h) i 0 ≡ j)
+  pub apart : (j : ℕ) → j ∈ rest → j ∈ take n order → ⊥
   pub long : length rest + n ≡ length (kept h)
   pub so-far : (q : List ℕ) → LowestFirst (Precedes (kept-steps h)) rest q → LowestFirst (Precedes (kept-steps h)) (kept h) (take n order ++ q)
 
@@ -83,6 +87,7 @@ module _ {h : History} {numbers states : List ℕ} {count : ℕ} (jobs : Jobs h 
             let p : r .0 < count = (let x = r .1 in let y = jobs .many in omega arith) in
             let q : r .0 < 512 = (let y = jobs .few in omega arith) in
             (r .0, q, k (r .0) q ∙ test-true (and-test (lt-test (r .0) count) (not-test (has-test (abandoned h) (getD (opened h) (r .0) 0)))) (p, λ a. s .1 (Memᴰ·cast (sym (r .2)) a)), r .2);
+        apart = λ j m p. List·Memᴰ·not-nil p;
         long = omega arith;
         so-far = λ q w. w;
       }
@@ -156,11 +161,23 @@ module _ {h : History} {numbers states : List ℕ} {count : ℕ} (jobs : Jobs h 
                   let x = strike-from j (u .rest) m in
                   let r = u .from k (x .0) in
                   (r .0, r .1, struck-keeps job left left′ st (r .0) (r .2) (λ z. x .1 (sym (r .3) ∙ ap (λ (i : ℕ). getD (opened h) i 0) z)), r .3);
+              apart = λ k m p.
+                  let x = strike-from j (u .rest) m in
+                  ⊎-elim (u .apart k (x .0)) (λ r. x .1 (List·Memᴰ·eq-of-singleton r ∙ e))
+                  (List·Memᴰ·append-cases (take n order) (subst (λ (z : List ℕ). k ∈ z) (entry-new order n (getD numbers job 0) l) p));
               long = let x = u .long in let y = strike-one (u .once) (a .1) in omega arith;
               so-far = λ t w.
                   subst (LowestFirst (Precedes (kept-steps h)) (kept h)) (sym (entry-more order n (getD numbers job 0) t l ∙ ap (λ (x : ℕ). take n order ++ x ∷ t) e))
                   (u .so-far (j ∷ t) (next (a .1) job-free (job-lowest lower) w));
             }
+
+        -- and its place is noted
+        pub underway-placed : (places : List ℕ) → Placed h count (take n order) places → n < length order → job < length places
+            → Placed h count (take (n + 1) (set order n (getD numbers job 0))) (set places job (n + 1))
+        underway-placed places placed l long =
+            let a = u .inside job q job-left in
+            subst (λ (z : List ℕ). Placed h count z (set places job (n + 1))) (sym (entry-new order n (getD numbers job 0) l))
+            (placed-more jobs (take n order) places (getD numbers job 0) job n placed (a .0) refl (λ m. u .apart (getD (opened h) job 0) (a .1) (Memᴰ·cast (sym (jobs .named job (a .0))) m)) (length-take-le n order (omega arith)) long)
 
       -- no job is ready, and some are left
       pub underway-stuck : n < length (kept h) → ((i : ℕ) → i < 512 → mark ready i ≡ false) → Circular (kept-steps h)
@@ -192,8 +209,23 @@ circle-none h t c = go (order-of h) refl
 
 -- ---- as the contract has it
 
-pub listed-all : (h : History) (r jobs : ℕ) (order : List ℕ) → jobs ≤ r → order-of h ≡ some (take jobs order) → order-of h ≡ cond (ltb r jobs) none (some (take jobs order))
-listed-all h r jobs order l e = e ∙ sym (ap (λ (b : Bool). cond b none (some (take jobs order))) (le-ltb r jobs l))
+module _ (h : History) (turns : Turns h) (count : ℕ) (order places : List ℕ) (n : ℕ) (placed : Placed h count (take n order) places) where
+  -- all are placed
+  pub lists-all : n ≡ length (kept h) → order-of h ≡ some (take n order) → Lists h count order places
+  lists-all z e =
+      record {
+        many = n;
+        places = placed;
+        stuck = λ m. absurd (not-both m (test-false (missing-test (kept h) (take n order)) (λ f. f (order-accepted h turns e .names))));
+        found = λ m. e ∙ ap (λ (k : ℕ). some (take k order)) z;
+      }
 
-pub listed-none : (h : History) (r jobs : ℕ) (order : List ℕ) → r < jobs → order-of h ≡ none → order-of h ≡ cond (ltb r jobs) none (some (take jobs order))
-listed-none h r jobs order l e = e ∙ sym (ap (λ (b : Bool). cond b none (some (take jobs order))) (lt-ltb r jobs l))
+  -- fewer are placed than kept
+  pub lists-none : n < length (kept h) → order-of h ≡ none → Lists h count order places
+  lists-none l e =
+      record {
+        many = n;
+        places = placed;
+        stuck = λ m. e;
+        found = λ m. absurd (not-both (test-true (missing-test (kept h) (take n order)) (λ all. let x = once-le (kept-once h turns) all in let y = length-take n order in omega arith)) m);
+      }

@@ -1,12 +1,12 @@
--- Marks in words of 64: one mark put or struck, a row joined to a row, the lowest mark, a mark of two sets, and the places that pass a test
--- marked one after the other. And lists: how many of a front's members pass, and a front copied.
+-- Marks in words of 64, by the laws of sets of words of any width: one mark put or struck, a row joined to a row, the lowest mark, a mark of two sets, and the
+-- places that pass a test marked one after the other. And lists: how many of a front's members pass, and a front copied.
 -- Assumes nothing.
 use mathlib.Core.Path.{_≡_, refl, sym, ap, ap₂, _∙_, subst}
 use mathlib.Core.Logic.{_⊎_, inl, inr, ⊎-elim}
-use mathlib.Core.Bool.{Bool, true, false, not, _&&_, _||_, cond, and-true, and-false, or-false}
+use mathlib.Core.Bool.{Bool, true, false, _&&_, _||_, cond, and-true, and-false, or-false}
 use mathlib.Core.List.{List, [], _∷_, _++_, append-nil}
-use Prim.Native.Nat.{ℕ, zero, suc, _+_, _-_, _*_, _/_, _%_, _^_, _≤_, _<_}
-use native.Mathlib.Nat.{one-mul, lt-of-le-of-lt}
+use Prim.Native.Nat.{ℕ, _+_, _-_, _*_, _/_, _%_, _^_, _≤_, _<_}
+use native.Mathlib.Nat.{zero-add, lt-of-le-of-lt}
 use native.Mathlib.Numerals.{add-one}
 use native.Mathlib.Omega.{arith}
 use borrow.Author.Tests.{le-ltb}
@@ -14,76 +14,44 @@ use lib.Bits.{bitOr, bitAnd, and-le-l}
 use lib.Count.{trailingZeros}
 use lib.Dec.{T, lit<, eqb, ltb}
 use lib.ListN.{length, getD, take, drop, set, length-set, length-append}
-use lib.Pow.{shl-exact}
-use lib.Seq.{take-suc, getD-set-same, getD-set-other}
-use Rattle.graph.specs.Decide.{is-true, true-is, false-is, own-test, eq-test, lt-test, and-test, or-test, same-test, answer, test-true, test-false}
+use lib.Seq.{take-suc, getD-set-same, getD-set-other, paste-suc}
+use Rattle.graph.specs.Decide.{is-true, true-is, own-test, eq-test, lt-test, and-test, or-test, same-test, answer, test-true, test-false}
 use Rattle.graph.specs.Lists.{only, only-append}
 use Rattle.marks.specs.Marks.{bit}
-use Rattle.marks.specs.MarkLaws.{bit-zero, bit-pow, bit-or, bit-and, bit-without, Lowest, lowest-mark, and-others}
-use Rattle.marks.specs.Words.{marked}
+use Rattle.marks.specs.MarkLaws.{bit-nonzero, bit-or, both-test, Lowest, lowest-mark, shl-one, and-others}
+use Rattle.marks.specs.Words.{marked, with-mark}
+use Rattle.marks.specs.WordLaws.{marked-at, marked-none, marked-with, marked-without}
 use Rattle.tallies.specs.Marks.{mark, in-row, Put, Struck, Joined, LowestMark, Common}
 
 -- ---- a mark's word and its place there
-
--- 1 << s
-pub one-shl : {s : ℕ} → s < 64 → 1 * 2 ^ s % 2 ^ 64 ≡ 2 ^ s
-one-shl {s} h = shl-exact {a = 1} 1 s 64 (lit< tt) (omega arith) ∙ one-mul (2 ^ s)
 
 -- a mark of a row
 pub row-mark : (words : List ℕ) (r i : ℕ) → in-row words r i ≡ bit (getD words (r * 8 + i / 64) 0) (i % 64)
 unfolding marked
 row-mark words r i = ap₂ (λ (x k : ℕ). bit (getD words x 0) k) (omega arith) (omega arith)
 
--- a mark of a set, and of its word w
-pub set-mark : (words : List ℕ) (i : ℕ) → mark words i ≡ bit (getD words (i / 64) 0) (i % 64)
-unfolding marked
-set-mark words i = refl
-
+-- mark k of word w, of a set and of a row
 pub word-mark : (words : List ℕ) (w k : ℕ) → k < 64 → mark words (w * 64 + k) ≡ bit (getD words w 0) k
-unfolding marked
-word-mark words w k q = ap₂ (λ (x y : ℕ). bit (getD words x 0) y) (omega arith) (omega arith)
+word-mark words w k q = marked-at words w q
 
-row-word-mark : (words : List ℕ) (r w k : ℕ) → k < 64 → in-row words r (w * 64 + k) ≡ bit (getD words (r * 8 + w) 0) k
-unfolding marked
-row-word-mark words r w k q = ap₂ (λ (x y : ℕ). bit (getD words x 0) y) (omega arith) (omega arith)
+pub row-word : (words : List ℕ) (r w k : ℕ) → k < 64 → in-row words r (w * 64 + k) ≡ bit (getD words (r * 8 + w) 0) k
+row-word words r w k q =
+    let z : r * 512 + (w * 64 + k) ≡ (r * 8 + w) * 64 + k = omega arith in
+    ap (marked 64 words) z ∙ marked-at words (r * 8 + w) q
 
 -- ---- one mark changes
 
--- the word of the mark x is replaced by one with the same marks but for x
-one-mark : (g : Bool → Bool → Bool) → ((b : Bool) → g b false ≡ b) → (words : List ℕ) (x v : ℕ) → x < 64 * length words
-    → ((k : ℕ) → bit v k ≡ g (bit (getD words (x / 64) 0) k) (eqb k (x % 64)))
-    → (y : ℕ) → mark (set words (x / 64) v) y ≡ g (mark words y) (eqb y x)
-unfolding marked
-one-mark g keeps words x v h new y = ⊎-elim same apart (answer (eq-test (y / 64) (x / 64)))
-  where
-    same : y / 64 ≡ x / 64 → bit (getD (set words (x / 64) v) (y / 64) 0) (y % 64) ≡ g (bit (getD words (y / 64) 0) (y % 64)) (eqb y x)
-    same e =
-        ap (λ (w : ℕ). bit w (y % 64)) (ap (λ (i : ℕ). getD (set words (x / 64) v) i 0) e ∙ getD-set-same words (x / 64) v 0 (omega arith))
-        ∙ new (y % 64)
-        ∙ ap₂ g (ap (λ (i : ℕ). bit (getD words i 0) (y % 64)) (sym e))
-        (same-test (eq-test (y % 64) (x % 64)) (eq-test y x) (λ p. omega arith) (λ p. omega arith))
-
-    apart : (y / 64 ≡ x / 64 → ⊥) → bit (getD (set words (x / 64) v) (y / 64) 0) (y % 64) ≡ g (bit (getD words (y / 64) 0) (y % 64)) (eqb y x)
-    apart f =
-        ap (λ (w : ℕ). bit w (y % 64)) (getD-set-other words (x / 64) (y / 64) v 0 f)
-        ∙ sym (keeps (bit (getD words (y / 64) 0) (y % 64)))
-        ∙ ap (g (bit (getD words (y / 64) 0) (y % 64))) (sym (test-false (eq-test y x) (λ e. f (ap (λ (z : ℕ). z / 64) e))))
-
 -- words[x / 64] |= 1 << (x % 64)
 pub puts : (words : List ℕ) (x : ℕ) → x < 64 * length words → Put x words (set words (x / 64) (bitOr (getD words (x / 64) 0) (1 * 2 ^ (x % 64) % 2 ^ 64)))
-puts words x h =
-    one-mark _||_ or-false words x (bitOr (getD words (x / 64) 0) (1 * 2 ^ (x % 64) % 2 ^ 64)) h
-    (λ k. ap (λ (m : ℕ). bit (bitOr (getD words (x / 64) 0) m) k) (one-shl (omega arith)) ∙ bit-or (getD words (x / 64) 0) (2 ^ (x % 64)) k
-    ∙ ap (λ (b : Bool). bit (getD words (x / 64) 0) k || b) (bit-pow (x % 64) k))
+unfolding with-mark
+puts words x h y =
+    ap (λ (m : ℕ). mark (set words (x / 64) (bitOr (getD words (x / 64) 0) m)) y) (shl-one 64 (omega arith)) ∙ marked-with 64 words x y (lit< tt) h
 
 -- words[x / 64] &= !(1 << (x % 64))
 pub strikes : (words : List ℕ) (x : ℕ) → x < 64 * length words → getD words (x / 64) 0 < 2 ^ 64
     → Struck x words (set words (x / 64) (bitAnd (getD words (x / 64) 0) (2 ^ 64 - 1 - 1 * 2 ^ (x % 64) % 2 ^ 64)))
-strikes words x h fits =
-    one-mark (λ a b. a && not b) and-true words x (bitAnd (getD words (x / 64) 0) (2 ^ 64 - 1 - 1 * 2 ^ (x % 64) % 2 ^ 64)) h
-    (λ k. ap (λ (m : ℕ). bit (bitAnd (getD words (x / 64) 0) (2 ^ 64 - 1 - m)) k) (one-shl (omega arith))
-    ∙ ap (λ (n : ℕ). bit n k) (and-others 64 (getD words (x / 64) 0) (x % 64) fits (omega arith))
-    ∙ bit-without (getD words (x / 64) 0) (x % 64) k)
+strikes words x h fits y =
+    ap (λ (v : ℕ). mark (set words (x / 64) v) y) (and-others 64 (getD words (x / 64) 0) (x % 64) fits (omega arith)) ∙ marked-without 64 words x y (lit< tt) h
 
 -- ---- a row joined to a row, word by word
 
@@ -141,10 +109,6 @@ joining-end {r} {q} {others} {words} {now} g j i h = row-mark now j i ∙ ⊎-el
 
 -- ---- the lowest mark
 
--- a word of no mark
-blank-word : {n : ℕ} (k : ℕ) → n ≡ 0 → bit n k ≡ false
-blank-word k e = ap (λ (x : ℕ). bit x k) e ∙ bit-zero k
-
 -- the words below w are 0, and w is not: its lowest mark is the lowest of all
 pub lowest-found : (words : List ℕ) (w : ℕ) → w < 8 → ((k : ℕ) → k < w → getD words k 0 ≡ 0) → getD words w 0 < 2 ^ 64 → (getD words w 0 ≡ 0 → ⊥)
     → (w * 64 + trailingZeros 64 (getD words w 0) ≤ 512) × LowestMark words (w * 64 + trailingZeros 64 (getD words w 0))
@@ -163,13 +127,13 @@ lowest-found words w h below fits ne = (omega (arith, inside), inl (omega (arith
     inside = low .inside
 
     lower : (i : ℕ) → i < w * 64 + t → mark words i ≡ false
-    lower i q = set-mark words i ∙ ⊎-elim (λ l. blank-word (i % 64) (below (i / 64) l)) (λ f. in-word (omega (arith, f, inside))) (answer (lt-test (i / 64) w))
+    lower i q = ⊎-elim (λ l. marked-none 64 words i (below (i / 64) l)) (λ f. in-word (omega (arith, f, inside))) (answer (lt-test (i / 64) w))
       where
-        in-word : i / 64 ≡ w → bit (getD words (i / 64) 0) (i % 64) ≡ false
-        in-word e = ap (λ (m : ℕ). bit (getD words m 0) (i % 64)) e ∙ low .none-lower (i % 64) (omega arith)
+        in-word : i ≡ w * 64 + i % 64 → mark words i ≡ false
+        in-word e = ap (mark words) e ∙ word-mark words w (i % 64) (omega arith) ∙ low .none-lower (i % 64) (omega arith)
 
 pub lowest-none : (words : List ℕ) → ((k : ℕ) → k < 8 → getD words k 0 ≡ 0) → LowestMark words 512
-lowest-none words blank = inr (refl, λ i q. set-mark words i ∙ blank-word (i % 64) (blank (i / 64) (omega arith)))
+lowest-none words blank = inr (refl, λ i q. marked-none 64 words i (blank (i / 64) (omega arith)))
 
 -- ---- a mark that a row and a set have both
 
@@ -177,7 +141,7 @@ pub common-found : (rows : List ℕ) (r : ℕ) (words : List ℕ) (w : ℕ) → 
     → (w * 64 + trailingZeros 64 (bitAnd (getD rows (r * 8 + w) 0) (getD words w 0)) ≤ 512)
     × Common rows r words (w * 64 + trailingZeros 64 (bitAnd (getD rows (r * 8 + w) 0) (getD words w 0)))
 common-found rows r words w h fits ne =
-    (omega (arith, inside), inl (omega (arith, inside), word-mark words w t inside ∙ is-true (there .1), row-word-mark rows r w t inside ∙ is-true (there .0)))
+    (omega (arith, inside), inl (omega (arith, inside), word-mark words w t inside ∙ is-true (there .1), row-word rows r w t inside ∙ is-true (there .0)))
   where
     one : ℕ
     one = getD rows (r * 8 + w) 0
@@ -195,7 +159,7 @@ common-found rows r words w h fits ne =
     inside = low .inside
 
     there : T (bit one t) × T (bit two t)
-    there = and-test (own-test (bit one t)) (own-test (bit two t)) .holds (subst T (bit-and one two t) (low .there))
+    there = both-test one two t .holds (low .there)
 
 pub common-none : (rows : List ℕ) (r : ℕ) (words : List ℕ) → ((k : ℕ) → k < 8 → bitAnd (getD rows (r * 8 + k) 0) (getD words k 0) ≡ 0) → Common rows r words 512
 common-none rows r words blank = inr (refl, λ i q e. row-mark rows r i ∙ test-false (own-test (bit (getD rows (r * 8 + i / 64) 0) (i % 64))) (none i q e))
@@ -204,8 +168,7 @@ common-none rows r words blank = inr (refl, λ i q e. row-mark rows r i ∙ test
     none i q e t =
         let one = getD rows (r * 8 + i / 64) 0 in
         let two = getD words (i / 64) 0 in
-        false-is (sym (bit-and one two (i % 64)) ∙ blank-word (i % 64) (blank (i / 64) (omega arith)))
-        (and-test (own-test (bit one (i % 64))) (own-test (bit two (i % 64))) .shows (t, true-is (sym (set-mark words i) ∙ e)))
+        bit-nonzero (bitAnd one two) (i % 64) (both-test one two (i % 64) .shows (t, unfold marked in true-is e)) (blank (i / 64) (omega arith))
 
 -- ---- the places below n that pass a test, marked one after the other
 
@@ -213,7 +176,7 @@ pub record Marking (p : ℕ → Bool) (n : ℕ) (words : List ℕ) : Type 0 wher
   pub at : (i : ℕ) → i < 512 → mark words i ≡ (ltb i n && p i)
 
 pub marking-start : (p : ℕ → Bool) (words : List ℕ) → ((i : ℕ) → getD words i 0 ≡ 0) → Marking p 0 words
-marking-start p words blank = record { at = λ i q. set-mark words i ∙ blank-word (i % 64) (blank (i / 64)) ∙ ap (λ (b : Bool). b && p i) (sym (le-ltb i 0 (omega arith))) }
+marking-start p words blank = record { at = λ i q. marked-none 64 words i (blank (i / 64)) ∙ ap (λ (b : Bool). b && p i) (sym (le-ltb i 0 (omega arith))) }
 
 -- one place more
 one-below : (p : ℕ → Bool) (n i : ℕ) → ltb i n && p i || eqb i n && p n ≡ ltb i (n + 1) && p i
@@ -249,14 +212,10 @@ count-none p l n q e = ap length (more p l n q ∙ ap (λ (b : Bool). only p (ta
 
 -- ---- a front copied
 
-copied : (from to : List ℕ) (i : ℕ) → i < length from → i < length to → set (take i from ++ drop i to) i (getD from i 0) ≡ take (suc i) from ++ drop (suc i) to
-copied [] to i p q = absurd (omega arith)
-copied (x ∷ from) [] i p q = absurd (omega arith)
-copied (x ∷ from) (y ∷ to) zero p q = refl
-copied (x ∷ from) (y ∷ to) (suc i) p q = ap (λ (l : List ℕ). x ∷ l) (copied from to i (omega arith) (omega arith))
-
 -- one entry more
 pub copy-turn : {now : List ℕ} (from to : List ℕ) (i : ℕ) → i < length from → i < length to → now ≡ take i from ++ drop i to
     → set now i (getD from i 0) ≡ take (i + 1) from ++ drop (i + 1) to
 copy-turn from to i p q e =
-    ap (λ (l : List ℕ). set l i (getD from i 0)) e ∙ copied from to i p q ∙ ap (λ (m : ℕ). take m from ++ drop m to) (sym (add-one i))
+    ap (λ (l : List ℕ). set l i (getD from i 0)) e
+    ∙ (simp zero-add at (paste-suc to 0 from i 0 (simp zero-add q) p))
+    ∙ ap (λ (m : ℕ). take m from ++ drop m to) (sym (add-one i))

@@ -55,6 +55,20 @@ place-new [] j f = ap (λ (b : Bool). cond b 1 0) (eq-eqb j j refl)
 place-new (x ∷ front) j f =
     ap (λ (b : Bool). cond b 1 (one-on (place-in (front ++ j ∷ []) j))) (ne-eqb x j (λ e. f (List·Memᴰ·head (sym e)))) ∙ ap one-on (place-new front j (λ m. f (later m)))
 
+-- an entry more at the end, and its place noted: each job has its place
+module _ {h : History} {numbers states : List ℕ} {count : ℕ} (jobs : Jobs h numbers states count) where
+  pub placed-more : (front places : List ℕ) (j k n : ℕ) → Placed h count front places → k < count → getD numbers k 0 ≡ j → (j ∈ front → ⊥) → length front ≡ n → k < length places
+      → Placed h count (front ++ j ∷ []) (set places k (n + 1))
+  placed-more front places j k n placed inside at new size long i r = go (answer (eq-test i k))
+    where
+      go : (i ≡ k) ⊎ (i ≡ k → ⊥) → getD (set places k (n + 1)) i 0 ≡ place-in (front ++ j ∷ []) (getD (opened h) i 0)
+      go (inl e) =
+          let own : getD (opened h) i 0 ≡ j = sym (jobs .named i r) ∙ ap (λ (m : ℕ). getD numbers m 0) e ∙ at in
+          ap (λ (m : ℕ). getD (set places k (n + 1)) m 0) e ∙ getD-set-same places k (n + 1) 0 long ∙ add-one n ∙ ap suc (sym size) ∙ sym (place-new front j new) ∙ ap (place-in (front ++ j ∷ [])) (sym own)
+      go (inr f) =
+          getD-set-other places k i (n + 1) 0 f ∙ placed i r
+          ∙ sym (place-other front (getD (opened h) i 0) j (λ e. f (same-entry jobs i k r inside (jobs .named i r ∙ e ∙ sym at))))
+
 -- ---- the entries of an order, one after the other
 
 -- what is found stands in the table
@@ -123,20 +137,6 @@ module _ {h : History} {numbers states : List ℕ} {count : ℕ} (jobs : Jobs h 
     pub stops-twice : {A : Type 0} → (getD places k 0 ≡ 0 → ⊥) → (first-bad (kept h) [] 0 order ≡ found-at n (length order)) × (n ≡ length order → A)
     stops-twice f = stops (inr (p .first (getD order n 0) (place-in-list (take n order) (getD order n 0) (λ e. f (so-far ∙ e)))))
 
-    -- its place noted, each job has its place in one entry more
-    place : k < length places → (getD order n 0 ∈ take n order → ⊥) → take (n + 1) order ≡ take n order ++ getD order n 0 ∷ []
-        → (i : ℕ) → i < count → (i ≡ k) ⊎ (i ≡ k → ⊥) → getD (set places k (n + 1)) i 0 ≡ place-in (take (n + 1) order) (getD (opened h) i 0)
-    place long new more i r (inl e) =
-        let own : getD (opened h) i 0 ≡ getD order n 0 = sym (jobs .named i r) ∙ ap (λ (m : ℕ). getD numbers m 0) e ∙ at in
-        let size = length-take-le n order (omega arith) in
-        ap (λ (m : ℕ). getD (set places k (n + 1)) m 0) e ∙ getD-set-same places k (n + 1) 0 long ∙ add-one n ∙ ap suc (sym size) ∙ sym (place-new (take n order) (getD order n 0) new)
-        ∙ ap (λ (l : List ℕ). place-in l (getD order n 0)) (sym more)
-        ∙ ap (place-in (take (n + 1) order)) (sym own)
-    place long new more i r (inr f) =
-        getD-set-other places k i (n + 1) 0 f ∙ p .placed i r
-        ∙ sym (place-other (take n order) (getD (opened h) i 0) (getD order n 0) (λ e. f (same-entry jobs i k r inside (jobs .named i r ∙ e ∙ sym at))))
-        ∙ ap (λ (l : List ℕ). place-in l (getD (opened h) i 0)) (sym more)
-
     -- a good entry: its place is noted
     pub goes-on : k < length places → (getD states k 0 ≡ 4 → ⊥) → getD places k 0 ≡ 0 → Placing h count order (set places k (n + 1)) (n + 1)
     goes-on long stays unnamed =
@@ -153,7 +153,9 @@ module _ {h : History} {numbers states : List ℕ} {count : ℕ} (jobs : Jobs h 
           rest = look
               ∙ ap (λ (c : Bool). cond c (some n) (first-bad (kept h) (j ∷ p .before) (suc n) (drop (suc n) order))) (test-false bad-test good)
               ∙ ap (λ (m : ℕ). first-bad (kept h) (j ∷ p .before) m (drop m order)) (sym (add-one n));
-          placed = λ i r. place long new more i r (answer (eq-test i k));
+          placed =
+              subst (λ (l : List ℕ). Placed h count l (set places k (n + 1))) (sym more)
+              (placed-more jobs (take n order) places j k n (p .placed) inside at new (length-take-le n order (omega arith)) long);
         }
 
 -- ---- the opened jobs, one after the other

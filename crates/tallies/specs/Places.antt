@@ -1,17 +1,19 @@
--- The places of an order, and the highest of them that a cell has seen.
+-- The places of an order, the order that the lister finds, and the highest places that a cell has seen.
 --
 -- A place counts from 1, and 0 is that of a job that is not named. Going through the steps of the kept jobs, each cell keeps the highest place among the jobs that
 -- have read it so far and among those that have written it: a step whose job stands lower than a job that it conflicts with is the later one of a pair that runs backward.
 -- Assumes nothing.
 use mathlib.Core.Path.{_≡_}
-use mathlib.Core.Bool.{_&&_, cond}
+use mathlib.Core.Bool.{true, false, _&&_, cond}
 use mathlib.Core.Option.{Option, none, some}
 use mathlib.Core.List.{List, [], _∷_}
 use Prim.Native.Nat.{ℕ, zero, suc, _<_, max}
 use lib.Dec.{ltb, eqb}
-use lib.ListN.{getD}
-use Rattle.history.specs.Events.{Kind, read, write, Step, History, opened}
+use lib.ListN.{length, getD, take}
+use Rattle.history.specs.Events.{Kind, read, write, Step, History, opened, kept}
 use Rattle.history.specs.Memory.{same-kind}
+use Rattle.history.specs.Orders.{order-of}
+use Rattle.verdicts.specs.Verdicts.{missing}
 
 -- ---- the order
 
@@ -32,6 +34,13 @@ Placed h count order placed = (i : ℕ) → i < count → getD placed i 0 ≡ pl
 -- found at place r, or nowhere where r is the length
 abbrev pub found-at : ℕ → ℕ → Option ℕ
 found-at r n = cond (ltb r n) (some r) none
+
+-- so many entries have their places; where a kept job is missing from them the history has no order, and else its order stands in the list
+pub record Lists (h : History) (count : ℕ) (order placed : List ℕ) : Type 0 where
+  pub many : ℕ
+  pub places : Placed h count (take many order) placed
+  pub stuck : missing (kept h) (take many order) ≡ true → order-of h ≡ none
+  pub found : missing (kept h) (take many order) ≡ false → order-of h ≡ some (take (length (kept h)) order)
 
 -- ---- the tallies
 

@@ -5,21 +5,17 @@
 -- Assumes nothing.
 use mathlib.Core.Path.{_≡_, refl, sym, ap, _∙_, subst}
 use mathlib.Core.Logic.{_⊎_, inl, inr, ⊎-elim}
-use mathlib.Core.Bool.{Bool, true, false, not, _&&_}
+use mathlib.Core.Bool.{Bool, true, false}
 use mathlib.Core.List.{List}
-use Prim.Native.Nat.{ℕ, _+_, _-_, _*_, _/_, _%_, _^_, _≤_, _<_}
-use native.Mathlib.Nat.{lt-of-le-of-lt, pos-of-ne-zero}
+use Prim.Native.Nat.{ℕ, _+_, _-_, _*_, _/_, _^_, _≤_, _<_}
 use native.Mathlib.Omega.{arith}
-use lib.Bits.{bitAnd, and-le-l, and-le-r}
+use lib.Bits.{bitAnd}
 use lib.Count.{trailingZeros}
-use lib.Dec.{eqb}
-use lib.ListN.{getD}
 use Rattle.graph.specs.Decide.{is-true, true-is, answer, and-test, or-test, not-test, eq-test, lt-test, own-test, same-test, test-true, test-false}
 use Rattle.graph.specs.Lists.{other}
 use Rattle.marks.specs.Marks.{bit}
-use Rattle.marks.specs.MarkLaws.{bit-zero, bit-without, lowest-mark, and-pred}
-use Rattle.marks.specs.Words.{marked}
-use Rattle.marks.specs.WordLaws.{marked-at}
+use Rattle.marks.specs.MaskLaws.{Adds, adds-old, adds-from, seen, Left, left-start, left-inside, left-turn, left-adds, seen-start, seen-end}
+use Rattle.marks.specs.WordLaws.{marked-none}
 use Rattle.tallies.specs.Marks.{mark, in-row, Put, Struck, Free, Sorted, Settled, Only, In-word}
 use Rattle.tallies.specs.Jobs.{Blank}
 
@@ -118,54 +114,42 @@ module _ {preds left ready waiting : List ℕ} where
 
 -- ---- the jobs of a word, the lowest mark first, with `todo` left
 
+-- of those marks the ones that were seen
+abbrev In-seen : ℕ → ℕ → ℕ → ℕ → Type 0
+In-seen base word todo i = (k : ℕ) × (k < 64) × (i ≡ base + k) × (seen word todo k ≡ true)
+
 pub record Settling (base word todo : ℕ) (preds left ready waiting ready′ waiting′ : List ℕ) : Type 0 where
-  pub fits : todo < 2 ^ 64
-  pub inside : (k : ℕ) → bit todo k ≡ true → bit word k ≡ true
-  pub done : Settled (λ i. (k : ℕ) × (k < 64) × (i ≡ base + k) × (bit word k ≡ true) × (bit todo k ≡ false)) preds left ready waiting ready′ waiting′
+  pub marks : Left 64 word todo
+  pub done : Settled (In-seen base word todo) preds left ready waiting ready′ waiting′
 
 module _ {base word : ℕ} {preds left ready waiting : List ℕ} where
   pub settling-start : word < 2 ^ 64 → Settling base word word preds left ready waiting ready waiting
-  settling-start h = record { fits = h; inside = λ k e. e; done = settled-none (λ i r. not-both (r .3) (r .4)) }
+  settling-start h = record { marks = left-start h; done = settled-none (λ i r. not-both (r .3) (seen-start word (r .0))) }
 
   module _ {todo : ℕ} {ready₁ waiting₁ : List ℕ} (s : Settling base word todo preds left ready waiting ready₁ waiting₁) where
     pub settling-inside : (todo ≡ 0 → ⊥) → trailingZeros 64 todo < 64
-    settling-inside ne = lowest-mark 64 todo (s .fits) ne .inside
-
-    pub settling-less : (todo ≡ 0 → ⊥) → bitAnd todo (todo - 1) < todo
-    settling-less ne = omega (arith, and-le-r todo (todo - 1), pos-of-ne-zero ne)
+    settling-inside ne = left-inside (s .marks) ne
 
     pub settling-turn : {ready₂ waiting₂ : List ℕ} → (todo ≡ 0 → ⊥) → Settled (Only (base + trailingZeros 64 todo)) preds left ready₁ waiting₁ ready₂ waiting₂
         → Settling base word (bitAnd todo (todo - 1)) preds left ready waiting ready₂ waiting₂
     settling-turn ne t =
         record {
-          fits = lt-of-le-of-lt (and-le-l todo (todo - 1)) (s .fits);
-          inside = λ k e. s .inside k (old k e .0);
+          marks = left-turn (s .marks);
           done =
-              settled-then (s .done) t
-              (λ i r. (r .0, r .1, r .2, r .3, not-yet (λ e. old (r .0) e .0) (r .4)))
-              (λ i q e. (low, lowest-mark 64 todo (s .fits) ne .inside, e, s .inside low (is-true (lowest-mark 64 todo (s .fits) ne .there)), gone))
-              (λ i r. ⊎-elim (λ e. inr (r .2 ∙ ap (λ (k : ℕ). base + k) (passed (r .0) e (r .4)))) (λ e. inl (r .0, r .1, r .2, r .3, e)) (two (bit todo (r .0))));
+              settled-then (s .done) t (λ i r. (r .0, r .1, r .2, adds-old a (r .3))) (λ i q e. (low, settling-inside ne, e, a .after))
+              (λ i r. ⊎-elim (λ e. inr (r .2 ∙ ap (λ (k : ℕ). base + k) e)) (λ e. inl (r .0, r .1, r .2, e)) (adds-from a (r .3)));
         }
       where
         low : ℕ
         low = trailingZeros 64 todo
 
-        rest : (k : ℕ) → bit (bitAnd todo (todo - 1)) k ≡ bit todo k && not (eqb k low)
-        rest k = ap (λ (x : ℕ). bit x k) (and-pred 64 todo (s .fits) ne) ∙ bit-without todo low k
-
-        old : (k : ℕ) → bit (bitAnd todo (todo - 1)) k ≡ true → (bit todo k ≡ true) × (k ≡ low → ⊥)
-        old k e = let r = and-test (own-test (bit todo k)) (not-test (eq-test k low)) .holds (true-is (sym (rest k) ∙ e)) in (is-true (r .0), r .1)
-
-        gone : bit (bitAnd todo (todo - 1)) low ≡ false
-        gone = rest low ∙ test-false (and-test (own-test (bit todo low)) (not-test (eq-test low low))) (λ r. r .1 refl)
-
-        passed : (k : ℕ) → bit todo k ≡ true → bit (bitAnd todo (todo - 1)) k ≡ false → k ≡ low
-        passed k e f = ⊎-elim (λ z. z) (λ z. absurd (not-both (rest k ∙ test-true (and-test (own-test (bit todo k)) (not-test (eq-test k low))) (true-is e, z)) f)) (answer (eq-test k low))
+        a : Adds low (seen word todo) (seen word (bitAnd todo (todo - 1)))
+        a = left-adds (s .marks) ne
 
     pub settling-end : todo ≡ 0 → Settled (In-word base word) preds left ready waiting ready₁ waiting₁
     settling-end z =
-        settled-then (s .done) (settled-none {W = λ i. ⊥} (λ i f. f)) (λ i r. (r .0, r .1, r .2, r .3)) (λ i q f. absurd f)
-        (λ i r. inl (r .0, r .1, r .2, r .3, ap (λ (x : ℕ). bit x (r .0)) z ∙ bit-zero (r .0)))
+        settled-then (s .done) (settled-none {W = λ i. ⊥} (λ i f. f))
+        (λ i r. (r .0, r .1, r .2, sym (seen-end word todo z (r .0)) ∙ r .3)) (λ i q f. absurd f) (λ i r. inl (r .0, r .1, r .2, seen-end word todo z (r .0) ∙ r .3))
 
 -- ---- the jobs of a set, word by word
 
@@ -200,19 +184,7 @@ module _ {W : ℕ → Type 0} {preds left ready waiting ready′ waiting′ : Li
       same-test (own-test (in-row waiting b i)) (own-test (in-row waiting′ b i)) (λ t. true-is (s .stays-waiting b i p q (is-true t)))
       (λ t. ⊎-elim true-is (λ r. absurd (not-both (r .1) gone)) (s .new-waiting b i p q (is-true t)))
 
-pub left-word : (left : List ℕ) (w k : ℕ) → k < 64 → mark left (w * 64 + k) ≡ bit (getD left w 0) k
-left-word left w k q = marked-at left w q
-
-pub row-word : (waiting : List ℕ) (job w k : ℕ) → k < 64 → in-row waiting job (w * 64 + k) ≡ bit (getD waiting (job * 8 + w) 0) k
-row-word waiting job w k q =
-    let z : job * 512 + (w * 64 + k) ≡ (job * 8 + w) * 64 + k = omega arith in
-    ap (marked 64 waiting) z ∙ marked-at waiting (job * 8 + w) q
-
 -- ---- sorted
-
-blank-mark : (l : List ℕ) → Blank l → (i : ℕ) → mark l i ≡ false
-unfolding marked
-blank-mark l z i = ap (λ (x : ℕ). bit x (i % 64)) (z (i / 64)) ∙ bit-zero (i % 64)
 
 -- all that is left, settled from nothing
 pub first-sorted : {preds left ready waiting ready′ waiting′ : List ℕ} (w : ℕ) → 8 ≤ w → Settled (Passed (mark left) w) preds left ready waiting ready′ waiting′
@@ -222,11 +194,11 @@ first-sorted {preds} {left} {ready} {waiting} {ready′} w h s zr zw =
       ready-left = λ i q e. new i q e .0 .1;
       ready-free = λ i q e. new i q e .1;
       others-wait = λ i q e. s .each-settled i q (omega arith, e);
-      who-waits = λ b i p q e m. let r = other (λ t. not-both t (blank-mark waiting zw (b * 512 + i))) (s .new-waiting b i p q m) in (r .0 .1, r .2);
+      who-waits = λ b i p q e m. let r = other (λ t. not-both t (marked-none 64 waiting (b * 512 + i) (zw ((b * 512 + i) / 64)))) (s .new-waiting b i p q m) in (r .0 .1, r .2);
     }
   where
     new : (i : ℕ) → i < 512 → mark ready′ i ≡ true → Passed (mark left) w i × Free preds left i
-    new i q e = other (λ t. not-both t (blank-mark ready zr i)) (s .new-ready i q e)
+    new i q e = other (λ t. not-both t (marked-none 64 ready i (zr (i / 64)))) (s .new-ready i q e)
 
 -- a ready job is placed: it is struck, and those that waited for it are settled
 module _ {preds left ready waiting left′ ready₁ ready′ waiting′ : List ℕ} {job w : ℕ} (inside : job < 512) (h : 8 ≤ w) (old : Sorted preds left ready waiting) (is-ready : mark ready job ≡ true)

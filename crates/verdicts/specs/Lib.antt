@@ -5,3 +5,4 @@ pub mod LogLaws
 pub mod VerdictLaws
 pub mod SizeLaws
 pub mod Promises
+pub mod WrongVerdicts

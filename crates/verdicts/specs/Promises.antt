@@ -17,16 +17,20 @@ use Rattle.history.specs.Run.{Program, last-write}
 use Rattle.history.specs.OrderLaws.{accepted-no-circle}
 use Rattle.history.specs.Promises.{AsTheLog, one-at-a-time, same-reads, same-ends, granted-order}
 use Rattle.verdicts.specs.Logs.{Reading, faulty, events, most-jobs, read-log, log-of}
-use Rattle.verdicts.specs.Verdicts.{check, Listed, listed, list-of, list-order}
+use Rattle.verdicts.specs.Verdicts.{Verdict, check, Listed, listed, list-of, list-order}
 use Rattle.verdicts.specs.LogLaws.{Fault, faults, read-turns, read-back, Sized, granted-read}
-use Rattle.verdicts.specs.VerdictLaws.{Checked, check-right, check-exactly, ListedAs, no-room, no-order, an-order, listed-right, Answered, log-faulty, log-read, list-right}
-use Rattle.verdicts.specs.SizeLaws.{check-place, list-place, check-apart, list-apart}
+use Rattle.verdicts.specs.VerdictLaws.{Checked, check-right, checked-only, check-exactly, ListedAs, no-room, no-order, an-order, listed-right, Answered, log-faulty, log-read, list-right, answered-only}
+use Rattle.verdicts.specs.SizeLaws.{check-small, list-small, check-apart, list-apart}
 
 -- ---- the checker
 
 -- the verdict on any bytes and any list, code by code and place by place
 pub verdict-means : (bytes order : List ℕ) → Checked bytes order (check bytes order)
 verdict-means = check-right
+
+-- and no other verdict means that: a checker that keeps this promise is `check` (WrongVerdicts has builds that do not)
+pub verdict-only : (bytes order : List ℕ) (v : Verdict) → Checked bytes order v → v ≡ check bytes order
+verdict-only bytes order v = checked-only bytes order
 
 -- accepted exactly when the log has no fault, and the order names each kept job once and its layout keeps every conflicting pair
 pub accepts-exactly : (bytes order : List ℕ) → (check bytes order .code ≡ 0) ↔ ((h : History) × (read-log bytes ≡ events h) × Accepted h order)
@@ -50,6 +54,10 @@ accepted-good bytes order z =
 -- the answer on any bytes and any lent list, code by code, with what then stands in the list
 pub answer-means : (bytes lent : List ℕ) → Answered bytes lent (list-order bytes lent)
 answer-means = list-right
+
+-- and no other answer means that
+pub answer-only : (bytes lent : List ℕ) (a : Listed) → Answered bytes lent a → a ≡ list-order bytes lent
+answer-only bytes lent a = answered-only bytes lent
 
 module _ (bytes lent : List ℕ) (h : History) (reads : read-log bytes ≡ events h) (room : length (kept h) ≤ length lent) where
   of-log : list-order bytes lent ≡ listed h lent
@@ -100,10 +108,10 @@ refusal-leaves bytes lent f = kept-list (list-right bytes lent) f
 
 -- the place of any verdict and of any answer is at most 4,095
 pub verdict-small : (bytes order : List ℕ) → check bytes order .place ≤ 4095
-verdict-small = check-place
+verdict-small bytes order = check-small bytes order .place-small
 
 pub answer-small : (bytes lent : List ℕ) → list-order bytes lent .place ≤ 4095
-answer-small = list-place
+answer-small bytes lent = list-small bytes lent .place-small
 
 -- so the code times 2 ^ 32 plus the place, in one number, tells both: verdicts with the same number are the same, and answers have the same code and place
 pub packed-apart : (bytes order bytes′ order′ : List ℕ)

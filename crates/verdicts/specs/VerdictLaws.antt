@@ -1,22 +1,22 @@
 -- The verdicts mean what they say. In order: code 15 and its place (`entries`, `missing-test`); code 16 and its place (`pairs`); the verdict code by code
 -- (`judged-right`, `check-right`); the checker accepts exactly the accepted orders of a log without a fault (`check-exactly`); the lister's answer
--- code by code (`listed-right`, `list-right`).
+-- code by code (`listed-right`, `list-right`); and no other verdict and no other answer means that (`checked-only`, `answered-only`).
 -- Assumes nothing.
 use mathlib.Core.Path.{_≡_, refl, sym, ap, _∙_, subst, subst₂}
 use mathlib.Core.Logic.{_⊎_, inl, inr, ⊎-elim, _↔_}
-use mathlib.Core.Bool.{not, cond}
+use mathlib.Core.Bool.{Bool, not, cond}
 use mathlib.Core.Option.{Option, none, some}
 use mathlib.Core.List.{List, [], _∷_, _++_, List·Memᴰ·head, List·Memᴰ·not-nil, List·Memᴰ·cases-cons, Memᴰ·cast, Memᴰ·append-right}
 use Prim.Native.Nat.{ℕ, zero, suc, _+_, _≤_, _<_}
 use native.Mathlib.Omega.{arith}
 use lib.ListN.{length, drop}
-use Rattle.graph.specs.Decide.{Decides, and-test, or-test, not-test, eq-test, lt-test, read-as, some-test, every-test, by-test, answer}
-use Rattle.graph.specs.Lists.{_∈_, here, later, each, Before, first, after, before-cons, before-nil, before-left, before-right, before-from-only, Once, none, more, once-one-way, members, once-irreflexive, before-across, once-if, once-length}
+use Rattle.graph.specs.Decide.{Decides, and-test, or-test, not-test, eq-test, lt-test, read-as, some-test, every-test, by-test, test-true, test-false, answer}
+use Rattle.graph.specs.Lists.{_∈_, here, later, each, Before, first, after, before-cons, before-nil, before-left, before-right, before-from-only, Once, none, more, once-head, once-tail, once-one-way, members, once-irreflexive, before-across, once-if, once-length}
 use Rattle.history.specs.Events.{History, has, abandoned, kept, Step, all-steps, kept-steps, Conflict, Precedes, Circular, opened}
 use Rattle.history.specs.EventLaws.{conflict-test, precedes-of}
 use Rattle.history.specs.Turns.{Turns}
 use Rattle.history.specs.TurnLaws.{has-test, orderly}
-use Rattle.history.specs.OrderLaws.{step-kept, order-accepted, no-order-circle}
+use Rattle.history.specs.OrderLaws.{step-kept, order-accepted, no-order-circle, accepted-no-circle}
 use Rattle.history.specs.Orders.{layout, Keeps, Accepted, order-of}
 use Rattle.history.specs.LayoutLaws.{keeps-forward, forward-keeps}
 use Rattle.verdicts.specs.Logs.{Reading, faulty, events, read-log}
@@ -307,3 +307,83 @@ list-right bytes lent = go (read-log bytes) refl
     go : (g : Reading) → read-log bytes ≡ g → Answered bytes lent (list-of g lent)
     go (faulty c p) e = Answered.log-faulty e
     go (events h) e = let t = read-turns bytes h e in Answered.log-read e t (listed-right h t lent)
+
+-- ---- no other verdict, and no other answer
+
+-- an entry that is bad and stands after good ones is the one that is found
+first-bad-at : (jobs before : List ℕ) (n : ℕ) (front : List ℕ) (entry : ℕ) (back : List ℕ) → Good jobs before front → (entry ∈ jobs → ⊥) ⊎ ((entry ∈ before) ⊎ (entry ∈ front))
+    → first-bad jobs before n (front ++ entry ∷ back) ≡ some (n + length front)
+first-bad-at jobs before n [] entry back g b =
+    ap (λ (x : Bool). cond x (some n) (first-bad jobs (entry ∷ before) (suc n) back))
+    (test-true (or-test (not-test (has-test jobs entry)) (has-test before entry)) (⊎-elim inl (⊎-elim inr (λ m. absurd (List·Memᴰ·not-nil m))) b))
+    ∙ ap some (omega arith)
+first-bad-at jobs before n (x ∷ front) entry back g b =
+    ap (λ (y : Bool). cond y (some n) (first-bad jobs (x ∷ before) (suc n) (front ++ entry ∷ back)))
+    (test-false (or-test (not-test (has-test jobs x)) (has-test before x)) (⊎-elim (λ f. f (g .kept x here)) (g .apart x here)))
+    ∙ (first-bad-at jobs (x ∷ before) (suc n) front entry back
+    (record {
+      once = once-tail (g .once);
+      kept = λ j m. g .kept j (later m);
+      apart = λ j m n. ⊎-elim (λ q. once-head (g .once) (Memᴰ·cast (sym q) m)) (g .apart j (later m)) (List·Memᴰ·cases-cons n);
+    })
+    (⊎-elim inl (⊎-elim (λ m. inr (inl (later m))) (λ m. ⊎-elim (λ q. inr (inl (List·Memᴰ·head q))) (λ k. inr (inr k)) (List·Memᴰ·cases-cons m))) b)
+    ∙ ap some (omega arith))
+
+found-at : {jobs order : List ℕ} {p : ℕ} → FirstBad jobs [] order zero p → first-bad jobs [] zero order ≡ some p
+found-at {jobs} f =
+    ap (first-bad jobs [] zero) (f .split) ∙ (first-bad-at jobs [] zero (f .front) (f .entry) (f .back) (f .good) (f .bad) ∙ ap some (sym (f .place)))
+
+-- entries that are kept and named once have no bad one among them
+none-bad : {jobs order : List ℕ} {p : ℕ} → Once order → ((j : ℕ) → j ∈ order → j ∈ jobs) → FirstBad jobs [] order zero p → ⊥
+none-bad {jobs} {order} once kept f =
+    ⊎-elim (λ n. n (kept (f .entry) (subst (λ (l : List ℕ). f .entry ∈ l) (sym (f .split)) (Memᴰ·append-right (f .front) here))))
+    (⊎-elim (λ m. List·Memᴰ·not-nil m) (λ m. once-irreflexive once (subst (λ (l : List ℕ). Before (f .entry) (f .entry) l) (sym (f .split)) (before-across m here)))) (f .bad)
+
+module _ (h : History) (order : List ℕ) where
+  -- two verdicts that mean what they say of one order are one
+  judged-only : {v w : Verdict} → Judged h order v → Judged h order w → v ≡ w
+  judged-only (bad-entry f) (bad-entry g) = let q = sym (found-at f) ∙ found-at g in ap (verdict 15) cc
+  judged-only (bad-entry f) (job-missing g m) = absurd (none-bad (g .once) (g .kept) f)
+  judged-only (bad-entry f) (pair-turned n l) = absurd (none-bad (n .once) (n .named) f)
+  judged-only (bad-entry f) (accepted a) = absurd (none-bad (a .once) (a .named) f)
+  judged-only (job-missing g m) (bad-entry f) = absurd (none-bad (g .once) (g .kept) f)
+  judged-only (job-missing g m) (job-missing k n) = refl
+  judged-only (job-missing g m) (pair-turned n l) = absurd (m (n .names))
+  judged-only (job-missing g m) (accepted a) = absurd (m (a .names))
+  judged-only (pair-turned n l) (bad-entry f) = absurd (none-bad (n .once) (n .named) f)
+  judged-only (pair-turned n l) (job-missing g m) = absurd (m (n .names))
+  judged-only (pair-turned n l) (pair-turned k r) =
+      let a = l .lowest (r .earlier) (r .later) (r .in-order) (r .turned) in
+      let b = r .lowest (l .earlier) (l .later) (l .in-order) (l .turned) in
+      let c = l .place in
+      let d = r .place in
+      ap (verdict 16) (omega arith)
+  judged-only (pair-turned n l) (accepted a) = absurd (is-turned h (a .once) (a .keeps) (l .earlier) (l .later) (l .in-order) (l .turned))
+  judged-only (accepted a) j = sym (accepted-judged h order a j)
+
+-- whatever verdict means that of a log and a list is the checker's
+pub checked-only : (bytes order : List ℕ) {v : Verdict} → Checked bytes order v → v ≡ check bytes order
+unfolding check
+checked-only bytes order (log-faulty e) = sym (ap (λ (g : Reading). judge g order) e)
+checked-only bytes order (log-read {h = h} e t j) = judged-only h order j (judged-right h t order) ∙ sym (ap (λ (g : Reading). judge g order) e)
+
+module _ (h : History) (turns : Turns h) (lent : List ℕ) where
+  -- and two answers
+  listed-only : {a b : Listed} → ListedAs h lent a → ListedAs h lent b → a ≡ b
+  listed-only (no-room l) (no-room k) = refl
+  listed-only (no-room l) (no-order k c) = absurd (omega arith)
+  listed-only (no-room l) (an-order k e a n) = absurd (omega arith)
+  listed-only (no-order l c) (no-room k) = absurd (omega arith)
+  listed-only (no-order l c) (no-order k d) = refl
+  listed-only (no-order l c) (an-order k e a n) = absurd (accepted-no-circle h turns a c)
+  listed-only (an-order k e a n) (no-room l) = absurd (omega arith)
+  listed-only (an-order k e a n) (no-order l c) = absurd (accepted-no-circle h turns a c)
+  listed-only (an-order {o = o} k e a n) (an-order {o = p} l f b m) =
+      let q : o ≡ p = cc in
+      ap (λ (x : List ℕ). record { code = 0; place = length x; list = x ++ drop (length x) lent }) q
+
+-- whatever answer means that of a log and a lent list is the lister's
+pub answered-only : (bytes lent : List ℕ) {a : Listed} → Answered bytes lent a → a ≡ list-order bytes lent
+unfolding list-order
+answered-only bytes lent (log-faulty e) = sym (ap (λ (g : Reading). list-of g lent) e)
+answered-only bytes lent (log-read {h = h} e t l) = listed-only h t lent l (listed-right h t lent) ∙ sym (ap (λ (g : Reading). list-of g lent) e)

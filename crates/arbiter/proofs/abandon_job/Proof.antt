@@ -1,8 +1,10 @@
 -- `arbiter::abandon_job` meets its contract: a law of RequestLaws for each way out. Assumes nothing.
+use Prim.Native.Nat.{_+_, _*_}
 use native.Mathlib.Omega.{arith}
 use borrow.Author.Needs.{needs}
 use Rattle.held.specs.Held.{Held}
 use Rattle.arbiter.specs.Lent.{lent}
+use Rattle.arbiter.proofs.SetLaws.{Part}
 use Rattle.arbiter.proofs.RequestLaws.{Found, slot-found, does-abandon-not-open, does-abandon-written, does-abandon-granted}
 use Rattle.arbiter.proofs.abandon_job.Statement.{statement}
 use Rattle.arbiter.proofs.abandon_job.Tie as tie
@@ -19,11 +21,15 @@ found c = slot-found (state c) (c .before .before .before .args .job .0) (c .bef
 load-requires : tie.Need-load-requires
 load-requires c κs = let q = found (c .before .before) .inside in omega arith
 
+-- the slot's own writes, loaded
+loaded : (c : tie.After-load) → let e = c .before .before .before in Part (state e .sets) (e .before .slot-for .result * 16 + 4) (c .load .result .words)
+loaded c = record { four = search needs; from = c .load .ensures }
+
 returns-written : tie.Need-returns-2
 returns-written c =
     let l = c .before .before .before in
     let e = l .before .before .before in
-    does-abandon-written (found e) (l .load .ensures) (c .before .before .is-empty .ensures) (c .before .if2 .taken)
+    does-abandon-written (found e) (loaded l) (c .before .before .is-empty .ensures) (c .before .if2 .taken)
     (c .refused2 .ensures)
 
 leave-requires : tie.Need-leave-requires
@@ -34,7 +40,7 @@ returns-granted c =
     let t = c .before .before .before .before in
     let l = t .before .before in
     let e = l .before .before .before in
-    does-abandon-granted (found e) (l .load .ensures) (t .before .is-empty .ensures) (t .if2 .left)
+    does-abandon-granted (found e) (loaded l) (t .before .is-empty .ensures) (t .if2 .left)
     (e .before .before .before .fits .free .fits) (c .leave .ensures)
 
 pub abandon-job-spec : {M : Type 1} → statement M

@@ -3,13 +3,15 @@ use Prim.Native.Nat.{ℕ}
 use mathlib.Core.Path.{refl}
 use mathlib.Core.Bool.{Bool}
 use lib.Dec.{lit≤}
-use Rattle.arbiter.proofs.ClashLaws.{met, mask-among}
+use Rattle.arbiter.specs.Lent.{kind-of}
+use Rattle.arbiter.specs.Rows.{met}
+use Rattle.arbiter.proofs.ClashLaws.{mask-among}
 use Rattle.arbiter.proofs.clashing_among.Statement.{statement}
 use Rattle.arbiter.proofs.clashing_among.Tie as tie
 
 -- the rule of the rows
 rule : tie.Start → ℕ → Bool
-rule s = met (s .args .sets .now) (s .args .write) (s .args .cell .0)
+rule s = met (s .args .sets .now) (kind-of (s .args .write)) (s .args .cell .0)
 
 returns : tie.Need-returns
 unfolding rule

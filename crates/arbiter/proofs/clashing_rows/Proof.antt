@@ -7,10 +7,10 @@ use mathlib.Core.Bool.{not}
 use native.Mathlib.Omega.{arith}
 use borrow.Author.Needs.{needs}
 use borrow.Author.Tests.{eq-eqb, ne-eqb}
-use lib.Bits.{bitOr}
 use Rattle.marks.specs.Marks.{mask-of}
-use Rattle.arbiter.proofs.ClashLaws.{clash-word, clashes, tested, clash-mask}
-use Rattle.arbiter.proofs.MaskLaws.{one-shl, mask-in, mask-out}
+use Rattle.marks.specs.MaskLaws.{mask-in, mask-out}
+use Rattle.arbiter.specs.Rows.{clash-word}
+use Rattle.arbiter.proofs.ClashLaws.{clashes, tested, clash-mask}
 use Rattle.arbiter.proofs.clashing_rows.Statement.{statement}
 use Rattle.arbiter.proofs.clashing_rows.Tie as tie
 
@@ -45,7 +45,7 @@ loop-again c =
     let e = c .before .clashing .ensures in (
       omega arith,
       ⊎-elim
-          (λ w. w .1 ∙ ap (bitOr (l .loop .found)) (one-shl (omega arith)) ∙ mask-in (l .loop .i) f (l .loop .inv .1) (tested {n = at} (m .mark .result) e (ap not (ne-eqb _ _ (w .0 .taken)))))
+          (λ w. w .1 ∙ mask-in 32 (l .loop .i) f (l .loop .inv .1) (tested {n = at} (m .mark .result) e (ap not (ne-eqb _ _ (w .0 .taken)))) (omega arith))
           (λ w. w .1 ∙ mask-out (l .loop .i) f (l .loop .inv .1) (tested {n = at} (m .mark .result) e (ap not (eq-eqb _ _ (w .0 .left)))))
           (c .if1 .came),
     )

@@ -6,12 +6,12 @@ use native.Mathlib.Omega.{arith}
 use borrow.Author.Needs.{needs}
 use lib.Bits.{bitOr}
 use lib.Count.{trailingZeros}
-use Rattle.arbiter.proofs.MaskLaws.{Marked, left-inside, left-less, marked-start, marked-turn, marked-end}
+use Rattle.marks.specs.MaskLaws.{Rewriting, left-inside, left-less, rewriting-start, rewriting-turn, rewriting-end}
 use Rattle.arbiter.proofs.fold_leads.Statement.{statement}
 use Rattle.arbiter.proofs.fold_leads.Tie as tie
 
 abbrev Inv-loop : tie.InvT-loop
-Inv-loop free from rows₀ theirs todo₀ rows todo = Marked 32 from (λ x. bitOr x theirs) rows₀ todo rows
+Inv-loop free from rows₀ theirs todo₀ rows todo = Rewriting 32 from (λ x. bitOr x theirs) rows₀ todo rows
 
 abbrev μ-loop : tie.MeasureT-loop
 μ-loop free from rows₀ theirs todo₀ rows todo = todo
@@ -26,7 +26,7 @@ slice-read-theirs : tie.Need-slice-read-theirs Inv-loop μ-loop
 slice-read-theirs c = search needs
 
 loop-holds : tie.Need-loop-holds Inv-loop μ-loop
-loop-holds c = let r = c .before .before in marked-start (r .rows .given .0 .1) (r .before .fits .from .fits)
+loop-holds c = let r = c .before .before in rewriting-start (r .rows .given .0 .1) (r .before .fits .from .fits)
 
 -- the slot that a turn takes
 below : (c : tie.In-loop Inv-loop μ-loop) → trailingZeros 32 (c .before .loop .todo) < 32
@@ -51,10 +51,10 @@ loop-less : tie.Need-loop-less Inv-loop μ-loop
 loop-less c = left-less (c .before .loop-test .taken)
 
 loop-again : tie.Need-loop-again Inv-loop μ-loop
-loop-again c = marked-turn (c .before .before .loop .inv) (c .before .loop-test .taken) refl
+loop-again c = rewriting-turn (c .before .before .loop .inv) (c .before .loop-test .taken) refl
 
 returns : tie.Need-returns Inv-loop μ-loop
-returns c = marked-end (c .before .loop .inv) (c .loop-test .left)
+returns c = rewriting-end (c .before .loop .inv) (c .loop-test .left)
 
 pub fold-leads-spec : {M : Type 1} → statement M
 fold-leads-spec =

@@ -5,9 +5,9 @@ use native.Mathlib.Omega.{arith}
 use lib.Count.{trailingZeros}
 use lib.Dec.{eqb}
 use borrow.Author.Needs.{needs}
-use Rattle.marks.specs.Marks.{tab}
-use Rattle.arbiter.proofs.MaskLaws.{left-less, left-inside}
-use Rattle.arbiter.proofs.SetLaws.{folded, Folding, fold-start, fold-other, fold-turn, fold-end}
+use Rattle.marks.specs.MaskLaws.{left-less, left-inside}
+use Rattle.arbiter.specs.Rows.{folded}
+use Rattle.arbiter.proofs.SetLaws.{Folding, fold-start, fold-other, fold-turn, fold-end}
 use Rattle.arbiter.proofs.fold_sets.Statement.{statement}
 use Rattle.arbiter.proofs.fold_sets.Tie as tie
 
@@ -30,8 +30,8 @@ take-over-requires c κs =
 -- What `take_over` ensures, at the loop's own values: handed to a law as it stands, antt would compare two tables of 512 by computing them.
 after : (c : tie.After-take-over Inv-loop μ-loop)
     → c .take-over .last .0
-    ≡ tab 512 (folded (λ k. eqb k (trailingZeros 32 (c .before .before .before .loop .todo))) (c .before .before .before .loop .sets)
-    (c .before .before .before .before .before .before .args .slot .0))
+    ≡ folded (c .before .before .before .loop .sets) (λ k. eqb k (trailingZeros 32 (c .before .before .before .loop .todo)))
+    (c .before .before .before .before .before .before .args .slot .0)
 after c = c .take-over .ensures
 
 loop-again : tie.Need-loop-again Inv-loop μ-loop

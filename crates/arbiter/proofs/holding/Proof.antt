@@ -8,11 +8,10 @@ use mathlib.Core.List.{List}
 use native.Mathlib.Omega.{arith}
 use borrow.Author.Needs.{needs}
 use borrow.Author.Tests.{eq-eqb, ne-eqb}
-use lib.Bits.{bitOr}
 use lib.Dec.{eqb}
 use lib.ListN.{getD}
 use Rattle.marks.specs.Marks.{bit, mask-of}
-use Rattle.arbiter.proofs.MaskLaws.{one-shl, mask-in, mask-out, mask-others}
+use Rattle.marks.specs.MaskLaws.{mask-in, mask-out, mask-others}
 use Rattle.arbiter.proofs.holding.Statement.{statement}
 use Rattle.arbiter.proofs.holding.Tie as tie
 
@@ -53,7 +52,7 @@ loop-again c =
     let f = holds (l .before .args .numbers .now) (l .before .args .job .0) in (
       omega arith,
       ⊎-elim
-          (λ w. w .1 ∙ ap (bitOr (l .loop .found)) (one-shl (omega arith)) ∙ mask-in (l .loop .i) f (l .loop .inv .1) (eq-eqb _ _ (w .0 .taken)))
+          (λ w. w .1 ∙ mask-in 32 (l .loop .i) f (l .loop .inv .1) (eq-eqb _ _ (w .0 .taken)) (omega arith))
           (λ w. w .1 ∙ mask-out (l .loop .i) f (l .loop .inv .1) (ne-eqb _ _ (w .0 .left)))
           (c .if1 .came),
     )

@@ -7,18 +7,19 @@ use borrow.Author.Needs.{needs}
 use lib.Bits.{bitOr}
 use lib.Count.{trailingZeros}
 use lib.ListN.{getD}
-use Rattle.arbiter.proofs.MaskLaws.{one-shl, Marked, left-inside, left-less, marked-start, marked-turn, marked-end}
+use Rattle.marks.specs.MarkLaws.{shl-one}
+use Rattle.marks.specs.MaskLaws.{Rewriting, left-inside, left-less, rewriting-start, rewriting-turn, rewriting-end}
 use Rattle.arbiter.proofs.lead_to.Statement.{statement}
 use Rattle.arbiter.proofs.lead_to.Tie as tie
 
 abbrev Inv-loop : tie.InvT-loop
-Inv-loop from slot rows₀ todo₀ rows todo = Marked 32 from (λ x. bitOr x (2 ^ (slot .0))) rows₀ todo rows
+Inv-loop from slot rows₀ todo₀ rows todo = Rewriting 32 from (λ x. bitOr x (2 ^ (slot .0))) rows₀ todo rows
 
 abbrev μ-loop : tie.MeasureT-loop
 μ-loop from slot rows₀ todo₀ rows todo = todo
 
 loop-holds : tie.Need-loop-holds Inv-loop μ-loop
-loop-holds c = marked-start (c .rows .given .0 .1) (c .before .fits .from .fits)
+loop-holds c = rewriting-start (c .rows .given .0 .1) (c .before .fits .from .fits)
 
 -- the slot that a turn takes
 below : (c : tie.In-loop Inv-loop μ-loop) → trailingZeros 32 (c .before .loop .todo) < 32
@@ -49,10 +50,10 @@ loop-again : tie.Need-loop-again Inv-loop μ-loop
 loop-again c =
     let t = c .before .before in
     let l = t .before in
-    marked-turn (l .loop .inv) (t .loop-test .taken) (ap (bitOr (getD (l .loop .rows) (trailingZeros 32 (l .loop .todo)) 0)) (one-shl (l .before .before .pre)))
+    rewriting-turn (l .loop .inv) (t .loop-test .taken) (ap (bitOr (getD (l .loop .rows) (trailingZeros 32 (l .loop .todo)) 0)) (shl-one 32 (l .before .before .pre)))
 
 returns : tie.Need-returns Inv-loop μ-loop
-returns c = marked-end (c .before .loop .inv) (c .loop-test .left)
+returns c = rewriting-end (c .before .loop .inv) (c .loop-test .left)
 
 pub lead-to-spec : {M : Type 1} → statement M
 lead-to-spec =

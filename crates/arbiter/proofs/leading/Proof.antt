@@ -10,8 +10,8 @@ use borrow.Author.Needs.{needs}
 use lib.Dec.{lit<, eqb}
 use lib.ListN.{getD}
 use Rattle.marks.specs.Marks.{bit, mask-of}
-use Rattle.marks.specs.MarkLaws.{bit-pow}
-use Rattle.arbiter.proofs.MaskLaws.{one-shl, mask-bit, mask-others}
+use Rattle.marks.specs.MarkLaws.{bit-pow, shl-one}
+use Rattle.marks.specs.MaskLaws.{mask-bit, mask-others}
 use Rattle.arbiter.proofs.leading.Statement.{statement}
 use Rattle.arbiter.proofs.leading.Tie as tie
 
@@ -54,7 +54,7 @@ loop-again c =
     let l = c .before .before .before in
     let a = l .before .args in
     let n = getD (a .leads .now) (l .loop .i) 0 in
-    (omega arith, mask-bit (l .loop .i) n (a .slot .0) (leads-to (a .leads .now) (a .slot .0)) (l .loop .inv .1) refl (omega arith))
+    (omega arith, mask-bit 32 (l .loop .i) n (a .slot .0) (leads-to (a .leads .now) (a .slot .0)) (l .loop .inv .1) refl (omega arith))
 
 shl-result : tie.Need-shl-result Inv-loop μ-loop
 shl-result c = search needs
@@ -66,7 +66,7 @@ returns c =
     let s = a .slot .0 in
     let f = leads-to (a .leads .now) s in
     let e : l .loop .i ≡ 32 = omega arith in
-    let own : (k : ℕ) → bit (1 * 2 ^ s % 2 ^ 32) k ≡ eqb k s = λ k. ap (λ (x : ℕ). bit x k) (one-shl (l .before .pre)) ∙ bit-pow s k in
+    let own : (k : ℕ) → bit (1 * 2 ^ s % 2 ^ 32) k ≡ eqb k s = λ k. ap (λ (x : ℕ). bit x k) (shl-one 32 (l .before .pre)) ∙ bit-pow s k in
     mask-others 32 (λ k. not (eqb k s) && f k) (bit (a .free)) (a .free)
     (mask-others 32 f (λ k. eqb k s) (1 * 2 ^ s % 2 ^ 32) (l .loop .inv .1 ∙ ap (λ (k : ℕ). mask-of k f) e) (mod-lt _ (lit< tt)) (λ k q. own k))
     (l .before .fits .free .fits) (λ k q. refl)

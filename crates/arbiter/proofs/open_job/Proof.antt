@@ -2,7 +2,7 @@
 use mathlib.Core.Path.{refl, sym, subst}
 use Prim.Native.Nat.{ℕ, _%_, _<_}
 use borrow.Author.Needs.{needs}
-use Rattle.arbiter.proofs.MaskLaws.{stored}
+use Rattle.marks.specs.MaskLaws.{set-tab}
 use Rattle.arbiter.proofs.RequestLaws.{slot, free-inside, does-open-spent, does-open-full, does-open-granted}
 use Rattle.arbiter.proofs.open_job.Statement.{statement}
 use Rattle.arbiter.proofs.open_job.Tie as tie
@@ -35,7 +35,7 @@ returns-granted c =
     let e = r .before in
     let a = e .before .before .args in
     does-open-granted (e .before .before .fits .free .fits) (e .before .if1 .left) (e .if2 .left)
-    (stored (a .numbers .now) (slot (a .free)) (a .next % 4294967296) (r .rows .given .0 .1) (inside e) (λ p q. refl))
+    (set-tab (a .numbers .now) (slot (a .free)) (a .next % 4294967296) (r .rows .given .0 .1) (inside e) (λ p q. refl))
     (c .before .before .before .strike .ensures) (c .before .blank .ensures)
 
 pub open-job-spec : {M : Type 1} → statement M

@@ -1,5 +1,5 @@
 -- `arbiter::reedtangle_replay` meets its contract, by that of `replay`. Assumes nothing.
-use mathlib.Core.Path.{_≡_, _∙_}
+use mathlib.Core.Path.{_∙_}
 use borrow.Author.Needs.{needs}
 use Rattle.arbiter.proofs.ReplayLaws.{told-whole}
 use Rattle.arbiter.proofs.reedtangle_replay.Statement.{statement}

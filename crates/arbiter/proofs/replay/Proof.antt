@@ -1,5 +1,5 @@
 -- `arbiter::replay` meets its contract. The loop's invariant: so many records are answered (`Replaying`). The measure is the records left. Assumes nothing.
-use mathlib.Core.Path.{_≡_, refl}
+use mathlib.Core.Path.{refl}
 use Prim.Native.Nat.{_+_, _-_, _*_, _≤_}
 use native.Mathlib.Omega.{arith}
 use lib.ListN.{length}

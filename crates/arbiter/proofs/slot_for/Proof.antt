@@ -11,9 +11,9 @@ use lib.Count.{trailingZeros}
 use lib.Dec.{lit≤, eqb}
 use lib.ListN.{getD}
 use Rattle.marks.specs.Marks.{bit}
-use Rattle.marks.specs.MarkLaws.{and-mark}
-use Rattle.arbiter.proofs.MaskLaws.{one-shl, lowest-none, lowest-is}
-use Rattle.arbiter.proofs.RequestLaws.{holds}
+use Rattle.marks.specs.MarkLaws.{and-mark, shl-one}
+use Rattle.marks.specs.MaskLaws.{lowest-none, lowest-is}
+use Rattle.arbiter.specs.Rows.{holds}
 use Rattle.arbiter.proofs.slot_for.Statement.{statement}
 use Rattle.arbiter.proofs.slot_for.Tie as tie
 
@@ -43,7 +43,7 @@ returns c =
     let i = l .loop .i in
     let q : i < 32 = omega arith in
     sym (lowest-is 32 (holds (a .free) (a .numbers .now) (a .job .0)) i q
-    (ap₂ _&&_ (sym (and-mark (a .free) i) ∙ ap (λ (x : ℕ). eqb (bitAnd (a .free) x) 0) (sym (one-shl q)) ∙ eq-eqb _ _ (c .if2 .taken)) (eq-eqb _ _ (c .before .if1 .taken)))
+    (ap₂ _&&_ (sym (and-mark (a .free) i) ∙ ap (λ (x : ℕ). eqb (bitAnd (a .free) x) 0) (sym (shl-one 32 q)) ∙ eq-eqb _ _ (c .if2 .taken)) (eq-eqb _ _ (c .before .if1 .taken)))
     (passed l))
 
 returns-2 : tie.Need-returns-2 Inv-loop μ-loop

@@ -5,7 +5,8 @@ use mathlib.Core.Bool.{true, false}
 use Prim.Native.Nat.{_+_, _*_}
 use borrow.Author.Needs.{needs}
 use Rattle.held.specs.Held.{Held}
-use Rattle.arbiter.specs.Lent.{lent, request-of}
+use Rattle.history.specs.Formats.{request-of}
+use Rattle.arbiter.specs.Lent.{lent}
 use Rattle.arbiter.proofs.RequestLaws.{cell-read, job-read, steps-byte, steps-kind, steps-open, steps-step, steps-end, steps-abandon}
 use Rattle.arbiter.proofs.step_in_place.Statement.{statement}
 use Rattle.arbiter.proofs.step_in_place.Tie as tie

@@ -1,17 +1,15 @@
 -- `arbiter::strike` meets its contract. The loop's invariant: each row passed is without the slot's mark, and the others are as they were.
 -- The measure is what is left of the rows. Assumes nothing.
-use Prim.Native.Nat.{ℕ, _≤_, _-_, _^_, zero-le}
-use mathlib.Core.Path.{_∙_, ap}
+use Prim.Native.Nat.{_≤_, _-_, zero-le}
 use mathlib.Core.Bool.{true}
 use native.Mathlib.Omega.{arith}
 use borrow.Author.Needs.{needs}
 use borrow.Author.Tests.{le-ltb, lt-ltb}
-use lib.Bits.{bitAnd}
 use lib.Dec.{ltb}
 use lib.ListN.{getD}
 use Rattle.marks.specs.Marks.{without}
 use Rattle.marks.specs.MarkLaws.{and-others}
-use Rattle.arbiter.proofs.MaskLaws.{one-shl, count-adds, Rewritten, rewritten-start, rewritten-turn, changed-end, stored}
+use Rattle.marks.specs.MaskLaws.{count-adds, Rewritten, rewritten-start, rewritten-turn, changed-end, set-tab}
 use Rattle.arbiter.proofs.strike.Statement.{statement}
 use Rattle.arbiter.proofs.strike.Tie as tie
 
@@ -50,7 +48,7 @@ loop-again c =
     let x = getD (l .loop .rows) (l .loop .i) 0 in (
       omega arith,
       rewritten-turn (count-adds (l .loop .i)) (l .loop .inv .1) (t .loop-test .taken)
-          (ap (λ (m : ℕ). bitAnd x (2 ^ 32 - 1 - m)) (one-shl (s .pre)) ∙ and-others 32 x (s .args .slot .0) (c .slice-known .given (l .loop .i) .fits) (s .pre)),
+          (and-others 32 x (s .args .slot .0) (c .slice-known .given (l .loop .i) .fits) (s .pre)),
     )
 
 cast-rows : tie.Need-cast-rows Inv-loop μ-loop
@@ -67,7 +65,7 @@ returns c =
     let l = c .before .before in
     let s = l .before .before .before in
     let r = l .loop .inv .1 in
-    stored (l .loop .rows) (s .args .slot .0) 0 (r .long) (s .pre) (changed-end (λ p. true) (λ p q. lt-ltb p (l .loop .i) (omega arith)) (r .rows))
+    set-tab (l .loop .rows) (s .args .slot .0) 0 (r .long) (s .pre) (changed-end (λ p. true) (λ p q. lt-ltb p (l .loop .i) (omega arith)) (r .rows))
 
 pub strike-spec : {M : Type 1} → statement M
 strike-spec =

@@ -7,7 +7,9 @@ use lib.Bits.{bitOr}
 use borrow.Author.Needs.{needs}
 use borrow.Author.Tests.{eq-eqb, ne-eqb}
 use Rattle.marks.specs.Marks.{mask-of}
-use Rattle.arbiter.proofs.ClashLaws.{tests, touches, touched-mask}
+use Rattle.arbiter.specs.Lent.{kind-of}
+use Rattle.arbiter.specs.Rows.{touches}
+use Rattle.arbiter.proofs.ClashLaws.{tests, touched-mask}
 use Rattle.arbiter.proofs.touching.Statement.{statement}
 use Rattle.arbiter.proofs.touching.Tie as tie
 
@@ -22,7 +24,7 @@ start c = c .before .before .before .before .before
 masks : (c : tie.After-mark) (b : Bool) → tests (c .before .clashing-past .result) (c .mark .result) ≡ b
     → let n = c .before .before .before .clashing-among .result in
     let a = start c .args in
-    cond b (bitOr n (1 * 2 ^ (a .slot .0) % 2 ^ 32)) n ≡ mask-of 32 (touches (a .free) (a .sets .now) (a .write) (a .slot .0) (a .cell .0))
+    cond b (bitOr n (1 * 2 ^ (a .slot .0) % 2 ^ 32)) n ≡ mask-of 32 (touches (a .free) (a .sets .now) (kind-of (a .write)) (a .slot .0) (a .cell .0))
 masks c b e =
     let a = start c .args in
     touched-mask (a .sets .now) (a .write) (a .cell .0) b (start c .fits .free .fits) (start c .pre .0) (start c .pre .1) (c .before .before .place .ensures)

@@ -1,22 +1,18 @@
 -- `orders::list_order` meets its contract: each way out is one of the lister's. Assumes nothing.
 use mathlib.Core.Path.{_≡_, sym, ap, subst, _∙_}
-use mathlib.Core.Bool.{Bool, cond}
-use mathlib.Core.Option.{none, some}
 use Prim.Native.Nat.{ℕ, _<_, _≤_}
 use native.Mathlib.Omega.{arith}
 use borrow.Author.Needs.{needs}
-use borrow.Author.Tests.{lt-ltb, le-ltb}
-use lib.Dec.{ltb}
 use lib.ListN.{length, take}
 use Rattle.history.specs.Events.{kept}
-use Rattle.history.specs.Orders.{order-of}
 use Rattle.verdicts.specs.Logs.{read-log, faulty}
 use Rattle.verdicts.specs.Verdicts.{refused, list-order}
 use Rattle.tallies.specs.Jobs.{Taken}
 use Rattle.tallies.specs.Marks.{Preceded, KeptMarks}
-use Rattle.orders.specs.Checks.{Reads}
+use Rattle.tallies.specs.Places.{Lists}
+use Rattle.orders.specs.Checks.{Reads, Keeps}
 use Rattle.orders.specs.declared.Read.the-variants.{Jobs}
-use Rattle.orders.proofs.CheckLaws.{zeros, read-fault, read-jobs, log-size, FaultKnown, fault-known, last-code}
+use Rattle.orders.proofs.CheckLaws.{zeros, read-fault, read-jobs, keeps-missing, keeps-all, log-size, FaultKnown, fault-known, last-code}
 use Rattle.orders.proofs.ListedLaws.{list-faulty, list-short, list-none, list-done}
 use Rattle.orders.proofs.list_order.Statement.{statement}
 use Rattle.orders.proofs.list_order.Tie as tie
@@ -103,18 +99,17 @@ gathered c =
     c .gather .ensures (k .0) (l .0) (n .count .given .0 .0)
     (subst (λ (m : ℕ). Taken (k .0) m (l .0) (l .1 .0) (l .1 .1 .0) (n .count .given .0 .0)) size (k .2)) (zeros 4096)
 
--- the order
+-- the order, and the places of its jobs
 abbrev gathered-at : tie.After-list-jobs → tie.After-gather
-gathered-at c = c .before .before .before .before .before
+gathered-at c = c .before .before .before .before .before .before
 
-ordered : (c : tie.After-list-jobs) → let p = kept-at (gathered-at c) in let r = p .keep .result in
-    order-of (events-of (counted p) .0) ≡ cond (ltb (c .list-jobs .result) r) none (some (take r (c .list-jobs .last .1 .1 .1 .1 .0)))
-ordered c =
+lists : (c : tie.After-list-jobs) → let n = counted (kept-at (gathered-at c)) in let l = c .list-jobs .last .1 .1 .1 .1 in Lists (events-of n .0) (n .count .given .0 .0) (l .0) (l .1 .0)
+lists c =
     let p = kept-at (gathered-at c) in
     let n = counted p in
     let k = events-of n in
     let l = n .before .before .read-jobs .last .1 in
-    c .list-jobs .ensures .1 (k .0) (l .1 .0) (n .count .given .0 .0) (k .2 .jobs) (gathered (gathered-at c)) (keeps p .1) (keeps p .0)
+    c .list-jobs .ensures (k .0) (l .1 .0) (n .count .given .0 .0) (k .2 .jobs) (gathered (gathered-at c)) (keeps p .1) (keeps p .0) (zeros 512)
 
 room : (c : tie.After-list-jobs) → let n = counted (kept-at (gathered-at c)) in length (kept (events-of n .0)) ≤ length (start (n .before .before) .args .out .now)
 room c =
@@ -122,29 +117,43 @@ room c =
     let n = counted p in
     subst (λ (m : ℕ). m ≤ length (start (n .before .before) .args .out .now)) (keeps p .0) (gathered-at c .before .before .before .before .if1 .left)
 
+-- whether every kept job is placed
+all-placed-requires : tie.Need-all-placed-requires
+all-placed-requires c κs = let few = events-of (counted (kept-at (gathered-at (c .before .before)))) .2 .jobs .few in omega arith
+
+abbrev listed-at : tie.After-all-placed → tie.After-list-jobs
+listed-at c = c .before .before .before
+
+tested : (c : tie.After-all-placed) → let j = listed-at c in
+    Keeps (events-of (counted (kept-at (gathered-at j))) .0) (take (lists j .many) (j .list-jobs .last .1 .1 .1 .1 .0)) (c .all-placed .result)
+tested c =
+    let j = listed-at c in
+    let n = counted (kept-at (gathered-at j)) in
+    let k = events-of n in
+    c .all-placed .ensures (k .0) (n .before .before .read-jobs .last .1 .0) (take (lists j .many) (j .list-jobs .last .1 .1 .1 .1 .0)) (k .2 .jobs) (lists j .places)
+
 returns-none : tie.Need-returns-2
 returns-none c =
-    let j = c .before in
-    let p = kept-at (gathered-at j) in
-    let n = counted p in
+    let f = c .before .before in
+    let j = listed-at f in
+    let n = counted (kept-at (gathered-at j)) in
     let k = events-of n in
     let a = start (n .before .before) .args in
-    let r = p .keep .result in
-    sym (list-none (a .log .now) (a .out .now) (k .0) (k .1) (room j)
-    (ordered j ∙ ap (λ (b : Bool). cond b none (some (take r (j .list-jobs .last .1 .1 .1 .1 .0)))) (lt-ltb (j .list-jobs .result) r (c .if2 .taken))))
+    let o = j .list-jobs .last .1 .1 .1 .1 .0 in
+    sym (list-none (a .log .now) (a .out .now) (k .0) (k .1) (room j) (lists j .stuck (keeps-missing (k .0) (take (lists j .many) o) (c .enum-told .given .1) (tested f))))
 
 returns-done : tie.Need-returns-7
 returns-done c =
-    let e = c .before .before .before .before .before in
-    let j = e .before in
+    let t = c .before .before .before .before .before in
+    let f = t .before .before in
+    let j = listed-at f in
     let p = kept-at (gathered-at j) in
     let n = counted p in
     let k = events-of n in
     let a = start (n .before .before) .args in
-    let r = p .keep .result in
-    let o = take r (j .list-jobs .last .1 .1 .1 .1 .0) in
-    list-done (a .log .now) (a .out .now) (k .0) (k .1) (room j) (k .2 .jobs .turns)
-    (ordered j ∙ ap (λ (b : Bool). cond b none (some o)) (le-ltb (j .list-jobs .result) r (e .if2 .left))) (keeps p .0) (c .before .before .copy-out .ensures)
+    let o = j .list-jobs .last .1 .1 .1 .1 .0 in
+    list-done (a .log .now) (a .out .now) (k .0) (k .1) (room j) (k .2 .jobs .turns) o
+    (lists j .found (keeps-all (k .0) (take (lists j .many) o) (t .enum-told2 .given .1) (tested f) .0)) (keeps p .0) (c .before .before .copy-out .ensures)
 
 pub list-order-spec : {M : Type 1} → statement M
 list-order-spec =
@@ -157,7 +166,10 @@ list-order-spec =
     returns-short
     gather-requires
     (λ c κs. search needs)
+    all-placed-requires
+    (λ c. search needs)
     returns-none
+    (λ c. search needs)
     (λ c κs. search needs)
     returns-length
     returns-form

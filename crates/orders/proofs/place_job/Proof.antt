@@ -6,7 +6,8 @@ use native.Mathlib.Omega.{arith}
 use lib.ListN.{getD}
 use borrow.Author.Needs.{needs}
 use Rattle.tallies.specs.Marks.{in-row, Settled}
-use Rattle.tallies.specs.SortLaws.{Passed, passed-none, passed-turn, settled-none, row-stays, row-word, struck-gone, next-sorted}
+use Rattle.tallies.specs.MarkLaws.{row-word}
+use Rattle.tallies.specs.SortLaws.{Passed, passed-none, passed-turn, settled-none, row-stays, struck-gone, next-sorted}
 use Rattle.orders.proofs.place_job.Statement.{statement}
 use Rattle.orders.proofs.place_job.Tie as tie
 

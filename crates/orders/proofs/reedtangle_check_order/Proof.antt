@@ -1,9 +1,9 @@
--- `orders::reedtangle_check_order` meets its contract: the code is at most 16 and the place at most the lengths of both lists, so that the sum fits. Assumes nothing.
+-- `orders::reedtangle_check_order` meets its contract: the code is at most 16 and the place at most 4,095, so that the sum fits. Assumes nothing.
 use mathlib.Core.Path.{_≡_, ap, _∙_}
 use native.Mathlib.Omega.{arith}
 use borrow.Author.Needs.{needs}
 use Rattle.verdicts.specs.Verdicts.{Verdict, check}
-use Rattle.orders.proofs.CheckLaws.{check-small}
+use Rattle.verdicts.specs.SizeLaws.{check-small}
 use Rattle.orders.proofs.reedtangle_check_order.Statement.{statement}
 use Rattle.orders.proofs.reedtangle_check_order.Tie as tie
 

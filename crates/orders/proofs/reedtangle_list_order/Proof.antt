@@ -1,9 +1,10 @@
--- `orders::reedtangle_list_order` meets its contract: the code is at most 18 and the place at most the length of the log, so that the sum fits. Assumes nothing.
+-- `orders::reedtangle_list_order` meets its contract: the code is at most 18 and the place at most 4,095, so that the sum fits. Assumes nothing.
 use mathlib.Core.Path.{_≡_, ap, _∙_}
 use native.Mathlib.Omega.{arith}
 use borrow.Author.Needs.{needs}
 use Rattle.verdicts.specs.Verdicts.{Listed, list-order}
-use Rattle.orders.proofs.ListedLaws.{list-small, same-code, same-place, same-list}
+use Rattle.verdicts.specs.SizeLaws.{list-small}
+use Rattle.orders.proofs.ListedLaws.{same-code, same-place, same-list}
 use Rattle.orders.proofs.reedtangle_list_order.Statement.{statement}
 use Rattle.orders.proofs.reedtangle_list_order.Tie as tie
 

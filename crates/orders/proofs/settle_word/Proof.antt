@@ -3,7 +3,8 @@ use Prim.Native.Nat.{_<_}
 use native.Mathlib.Omega.{arith}
 use borrow.Author.Needs.{needs}
 use lib.Count.{trailingZeros}
-use Rattle.tallies.specs.SortLaws.{Settling, settling-start, settling-inside, settling-less, settling-turn, settling-end}
+use Rattle.marks.specs.MaskLaws.{left-less}
+use Rattle.tallies.specs.SortLaws.{Settling, settling-start, settling-inside, settling-turn, settling-end}
 use Rattle.orders.proofs.settle_word.Statement.{statement}
 use Rattle.orders.proofs.settle_word.Tie as tie
 
@@ -30,7 +31,7 @@ settle-requires : tie.Need-settle-requires Inv-loop μ-loop
 settle-requires c κs = omega (arith, low (c .before .before))
 
 loop-less : tie.Need-loop-less Inv-loop μ-loop
-loop-less c = let l = c .before .before .before in settling-less (l .before .loop .inv) (l .loop-test .taken)
+loop-less c = left-less (c .before .before .before .loop-test .taken)
 
 loop-again : tie.Need-loop-again Inv-loop μ-loop
 loop-again c = let l = c .before .before .before in settling-turn (l .before .loop .inv) (l .loop-test .taken) (c .settle .ensures)

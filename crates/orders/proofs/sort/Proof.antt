@@ -4,7 +4,8 @@ use native.Mathlib.Omega.{arith}
 use lib.ListN.{getD}
 use borrow.Author.Needs.{needs}
 use Rattle.tallies.specs.Marks.{mark, Settled}
-use Rattle.tallies.specs.SortLaws.{Passed, passed-none, passed-turn, settled-none, left-word, first-sorted}
+use Rattle.tallies.specs.MarkLaws.{word-mark}
+use Rattle.tallies.specs.SortLaws.{Passed, passed-none, passed-turn, settled-none, first-sorted}
 use Rattle.orders.proofs.sort.Statement.{statement}
 use Rattle.orders.proofs.sort.Tie as tie
 
@@ -22,7 +23,7 @@ loop-again c =
     let l = c .before .before .before .before .before in
     let left = l .before .before .args .left .now in
     let w = l .loop .w in
-    (omega arith, passed-turn (mark left) w (getD left w 0) (l .loop .inv .1) (c .settle-word .ensures) (left-word left w))
+    (omega arith, passed-turn (mark left) w (getD left w 0) (l .loop .inv .1) (c .settle-word .ensures) (word-mark left w))
 
 returns : tie.Need-returns Inv-loop μ-loop
 returns c = λ zr zw. first-sorted (c .before .loop .w) (c .loop-test .left) (c .before .loop .inv .1) zr zw

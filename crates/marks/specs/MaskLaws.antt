@@ -1,56 +1,52 @@
--- What the arbiter's loops over marks and rows show, turn by turn.
+-- Masks as code makes them, and what its loops over marks and rows show, turn by turn. All over any width.
 --
--- First masks as the code makes them: `1 << s`, `found | (1 << w)`, `found & !n`, and a mask's lowest mark. Then loops that change the places of a table one after the other: `seen`
--- tells which indices were visited, and a place has its new value once its index was seen, and its old one before (`Changed`). One turn adds one index (`Adds`).
+-- First masks: `found | (1 << i)`, `found & !n`, and a mask's lowest mark. Then loops that change the places of a table one after the other: `seen` tells
+-- which indices were visited, and a place has its new value once its index was seen, and its old one before (`Changed`). One turn adds one index (`Adds`).
 -- Which one goes by the loop: the lowest mark of those that are left (`left-adds`; `Visiting` is such a loop over values of any kind), or the next number
--- (`count-adds`). Last the same of a list in which a turn rewrites one element (`Rewritten`; `Marked` where the marks are visited).
+-- (`count-adds`). Last the same of a list in which a turn rewrites one element (`Rewritten`; `Rewriting` where the marks are visited).
 -- Assumes nothing.
 use mathlib.Core.Path.{_≡_, refl, sym, ap, ap₂, _∙_, subst}
-use mathlib.Core.Logic.{⊎-elim}
+use mathlib.Core.Logic.{_⊎_, inl, inr, ⊎-elim}
 use mathlib.Core.Bool.{Bool, true, false, not, _&&_, cond, and-comm, and-true, and-false, and-not-self}
 use mathlib.Core.List.{List}
 use Prim.Native.Nat.{ℕ, _+_, _-_, _*_, _/_, _%_, _^_, _<_}
-use native.Mathlib.Nat.{one-mul, zero-mul, le-refl, lt-of-le-of-lt, pos-of-ne-zero}
+use native.Mathlib.Nat.{zero-mul, zero-mod, le-refl, lt-of-le-of-lt, pos-of-ne-zero}
 use native.Mathlib.Omega.{arith}
 use lib.Bits.{bitOr, bitAnd, or-zero-r, and-mask, and-le-l, and-le-r}
 use lib.Count.{trailingZeros, trailing-of-zero}
-use lib.Dec.{T, lit<, eqb, ltb}
+use lib.Dec.{T, eqb, ltb}
 use lib.ListN.{length, getD, set, length-set}
-use lib.Pow.{shl-exact}
+use lib.Pow.{ones-sub-lt}
 use lib.Seq.{ext-getD, getD-set-same, getD-set-other}
 use borrow.Author.Tests.{le-ltb, lt-ltb}
 use Rattle.graph.specs.Decide.{answer, true-is, false-is, own-test, and-test, eq-test, lt-test, same-test, by-test, test-true, test-false}
 use Rattle.marks.specs.Marks.{bit, mask-of, tab}
-use Rattle.marks.specs.MarkLaws.{digit, bit-lowest, low-digit, getD-tab, length-tab, bit-zero, bit-same, bit-and, bit-others, bit-without, mask-lt, mask-next, bit-mask, no-bits, bit-nonzero, Lowest, lowest-mark, and-pred}
+use Rattle.marks.specs.MarkLaws.{digit, bit-lowest, low-digit, getD-tab, length-tab, bit-none, bit-same, bit-and, bit-others, bit-without, mask-lt, mask-next, bit-mask, no-bits, bit-nonzero, Lowest, lowest-mark, shl-one, and-pred}
 
 -- ---- masks as the code makes them
 
--- 1 << s
-pub one-shl : {s : ℕ} → s < 32 → 1 * 2 ^ s % 2 ^ 32 ≡ 2 ^ s
-one-shl {s} h = shl-exact {a = 1} 1 s 32 (lit< tt) (omega arith) ∙ one-mul (2 ^ s)
+-- found | (1 << i), and found as it is: the next mark is there, or is not
+next-is : {b : Bool} (i : ℕ) (f : ℕ → Bool) → f i ≡ b → cond b (bitOr (mask-of i f) (2 ^ i)) (mask-of i f) ≡ mask-of (i + 1) f
+next-is i f t = sym (mask-next i f ∙ ap (λ (b : Bool). cond b (bitOr (mask-of i f) (2 ^ i)) (mask-of i f)) t)
 
--- found | (1 << w), and found as it is: the next mark is there, or is not
-next-is : {b : Bool} (w : ℕ) (f : ℕ → Bool) → f w ≡ b → cond b (bitOr (mask-of w f) (2 ^ w)) (mask-of w f) ≡ mask-of (w + 1) f
-next-is w f t = sym (mask-next w f ∙ ap (λ (b : Bool). cond b (bitOr (mask-of w f) (2 ^ w)) (mask-of w f)) t)
+pub mask-in : {x : ℕ} (w i : ℕ) (f : ℕ → Bool) → x ≡ mask-of i f → f i ≡ true → i < w → bitOr x (1 * 2 ^ i % 2 ^ w) ≡ mask-of (i + 1) f
+mask-in w i f e t h = ap₂ bitOr e (shl-one w h) ∙ next-is i f t
 
-pub mask-in : {x : ℕ} (w : ℕ) (f : ℕ → Bool) → x ≡ mask-of w f → f w ≡ true → bitOr x (2 ^ w) ≡ mask-of (w + 1) f
-mask-in w f e t = ap (λ (m : ℕ). bitOr m (2 ^ w)) e ∙ next-is w f t
-
-pub mask-out : {x : ℕ} (w : ℕ) (f : ℕ → Bool) → x ≡ mask-of w f → f w ≡ false → x ≡ mask-of (w + 1) f
-mask-out w f e t = e ∙ next-is w f t
+pub mask-out : {x : ℕ} (i : ℕ) (f : ℕ → Bool) → x ≡ mask-of i f → f i ≡ false → x ≡ mask-of (i + 1) f
+mask-out i f e t = e ∙ next-is i f t
 
 -- found | (((n >> s) & 1) << i): the next mark is the mark s of n
 bit-digit : (n s : ℕ) → bitAnd (n / 2 ^ s) 1 ≡ digit (bit n s)
 unfolding bit
 bit-digit n s = and-mask (n / 2 ^ s) 1 ∙ low-digit (n / 2 ^ s) ∙ ap digit (bit-lowest (n / 2 ^ s))
 
-pub mask-bit : {x : ℕ} (i n s : ℕ) (f : ℕ → Bool) → x ≡ mask-of i f → f i ≡ bit n s → i < 32
-    → bitOr x (bitAnd (n / 2 ^ s) 1 * 2 ^ i % 2 ^ 32) ≡ mask-of (i + 1) f
-mask-bit {x} i n s f e t h = ap (λ (d : ℕ). bitOr x (d * 2 ^ i % 2 ^ 32)) (bit-digit n s) ∙ go (bit n s) t
+pub mask-bit : {x : ℕ} (w i n s : ℕ) (f : ℕ → Bool) → x ≡ mask-of i f → f i ≡ bit n s → i < w
+    → bitOr x (bitAnd (n / 2 ^ s) 1 * 2 ^ i % 2 ^ w) ≡ mask-of (i + 1) f
+mask-bit {x} w i n s f e t h = ap (λ (d : ℕ). bitOr x (d * 2 ^ i % 2 ^ w)) (bit-digit n s) ∙ go (bit n s) t
   where
-    go : (b : Bool) → f i ≡ b → bitOr x (digit b * 2 ^ i % 2 ^ 32) ≡ mask-of (i + 1) f
-    go true t = ap (bitOr x) (one-shl h) ∙ mask-in i f e t
-    go false t = ap (λ (y : ℕ). bitOr x (y % 2 ^ 32)) (zero-mul (2 ^ i)) ∙ or-zero-r x ∙ mask-out i f e t
+    go : (b : Bool) → f i ≡ b → bitOr x (digit b * 2 ^ i % 2 ^ w) ≡ mask-of (i + 1) f
+    go true t = mask-in w i f e t h
+    go false t = ap (λ (y : ℕ). bitOr x (y % 2 ^ w)) (zero-mul (2 ^ i)) ∙ ap (bitOr x) (zero-mod (2 ^ w)) ∙ or-zero-r x ∙ mask-out i f e t
 
 -- a mark of a mask is what its rule says, and a number is known by its marks
 pub bit-of : {x : ℕ} (w : ℕ) (f : ℕ → Bool) → x ≡ mask-of w f → (k : ℕ) → k < w → bit x k ≡ f k
@@ -59,7 +55,10 @@ bit-of w f e k q = ap (λ (n : ℕ). bit n k) e ∙ bit-mask w f k q
 pub masked : {x : ℕ} (w : ℕ) (f : ℕ → Bool) → x < 2 ^ w → ((k : ℕ) → k < w → bit x k ≡ f k) → x ≡ mask-of w f
 masked {x} w f h e = bit-same w x (mask-of w f) h (mask-lt w f) (λ k q. e k q ∙ sym (bit-mask w f k q))
 
--- found & !n, where g says the marks of n
+-- !n, and found & !n where g says the marks of n
+pub mask-not : (w n : ℕ) → n < 2 ^ w → 2 ^ w - 1 - n ≡ mask-of w (λ k. not (bit n k))
+mask-not w n h = masked w (λ k. not (bit n k)) (ones-sub-lt w n) (λ k q. bit-others w n k h q)
+
 pub mask-others : {x : ℕ} (w : ℕ) (f g : ℕ → Bool) (n : ℕ) → x ≡ mask-of w f → n < 2 ^ w → ((k : ℕ) → k < w → bit n k ≡ g k)
     → bitAnd x (2 ^ w - 1 - n) ≡ mask-of w (λ k. not (g k) && f k)
 mask-others {x} w f g n e h m =
@@ -97,6 +96,14 @@ pub record Adds (i : ℕ) (seen next : ℕ → Bool) : Type 0 where
   pub before : seen i ≡ false
   pub after : next i ≡ true
   pub others : (k : ℕ) → (k ≡ i → ⊥) → next k ≡ seen k
+
+-- what was seen stays so, and what is seen is the index or was seen
+module _ {i : ℕ} {seen next : ℕ → Bool} (a : Adds i seen next) {k : ℕ} where
+  pub adds-old : seen k ≡ true → next k ≡ true
+  adds-old e = ⊎-elim (λ q. ap next q ∙ a .after) (λ n. a .others k n ∙ e) (answer (eq-test k i))
+
+  pub adds-from : next k ≡ true → (k ≡ i) ⊎ (seen k ≡ true)
+  adds-from e = ⊎-elim inl (λ n. inr (sym (a .others k n) ∙ e)) (answer (eq-test k i))
 
 module _ {X : Type 0} {n : ℕ} {ix : ℕ → ℕ} {new old : ℕ → X} where
   pub changed-start : {seen : ℕ → Bool} {now : ℕ → X} → ((k : ℕ) → seen k ≡ false) → ((p : ℕ) → p < n → now p ≡ old p) → Changed n ix seen new old now
@@ -138,7 +145,7 @@ pub seen-start : (from k : ℕ) → seen from from k ≡ false
 seen-start from k = and-not-self (bit from k)
 
 pub seen-end : (from todo : ℕ) → todo ≡ 0 → (k : ℕ) → seen from todo k ≡ bit from k
-seen-end from todo e k = ap (λ (b : Bool). bit from k && not b) (ap (λ (x : ℕ). bit x k) e ∙ bit-zero k) ∙ and-true (bit from k)
+seen-end from todo e k = ap (λ (b : Bool). bit from k && not b) (bit-none k e) ∙ and-true (bit from k)
 
 -- a turn: todo & (todo - 1) is left, with the lowest mark visited
 pub left-less : {todo : ℕ} → (todo ≡ 0 → ⊥) → bitAnd todo (todo - 1) < todo
@@ -207,8 +214,8 @@ count-adds i =
 -- ---- lists
 
 -- a list is known by its elements
-pub listed : {n : ℕ} {f : ℕ → ℕ} {l : List ℕ} → length l ≡ n → ((p : ℕ) → p < n → getD l p 0 ≡ f p) → l ≡ tab n f
-listed {n} {f} {l} e h =
+pub tab-of : {n : ℕ} {f : ℕ → ℕ} {l : List ℕ} → length l ≡ n → ((p : ℕ) → p < n → getD l p 0 ≡ f p) → l ≡ tab n f
+tab-of {n} {f} {l} e h =
     ext-getD 0 l (tab n f) (e ∙ sym (length-tab n f)) (λ p q. let r : p < n = subst (λ (k : ℕ). p < k) e q in h p r ∙ sym (getD-tab n f p 0 r))
 
 -- what a store leaves in its place and in each place, and the list after it
@@ -219,10 +226,10 @@ pub getD-set : (l : List ℕ) (i x p : ℕ) → i < length l → getD (set l i x
 getD-set l i x p h =
     by-test (λ (b : Bool). getD (set l i x) p 0 ≡ cond b x (getD l p 0)) (eq-test p i) (set-here l i x p refl h) (getD-set-other l i p x 0)
 
-pub stored : {n : ℕ} {f : ℕ → ℕ} (l : List ℕ) (i x : ℕ) → length l ≡ n → i < n → ((p : ℕ) → p < n → getD l p 0 ≡ f p)
+pub set-tab : {n : ℕ} {f : ℕ → ℕ} (l : List ℕ) (i x : ℕ) → length l ≡ n → i < n → ((p : ℕ) → p < n → getD l p 0 ≡ f p)
     → set l i x ≡ tab n (λ p. cond (eqb p i) x (f p))
-stored l i x e h g =
-    listed (length-set l i x ∙ e) (λ p q. getD-set l i x p (subst (λ (k : ℕ). i < k) (sym e) h) ∙ ap (cond (eqb p i) x) (g p q))
+set-tab l i x e h g =
+    tab-of (length-set l i x ∙ e) (λ p q. getD-set l i x p (subst (λ (k : ℕ). i < k) (sym e) h) ∙ ap (cond (eqb p i) x) (g p q))
 
 -- a list of n elements of which those that were seen are f of what they were
 pub record Rewritten (n : ℕ) (seen : ℕ → Bool) (f : ℕ → ℕ) (old l : List ℕ) : Type 0 where
@@ -245,18 +252,18 @@ module _ {n : ℕ} {f : ℕ → ℕ} {old : List ℕ} where
       }
 
 -- the same where a turn takes the lowest mark of those that are left
-pub record Marked (w from : ℕ) (f : ℕ → ℕ) (old : List ℕ) (todo : ℕ) (l : List ℕ) : Type 0 where
+pub record Rewriting (w from : ℕ) (f : ℕ → ℕ) (old : List ℕ) (todo : ℕ) (l : List ℕ) : Type 0 where
   pub left : Left w from todo
   pub done : Rewritten w (seen from todo) f old l
 
 module _ {w from : ℕ} {f : ℕ → ℕ} {old : List ℕ} where
-  pub marked-start : length old ≡ w → from < 2 ^ w → Marked w from f old from old
-  marked-start e h = record { left = left-start h; done = rewritten-start e (seen-start from) }
+  pub rewriting-start : length old ≡ w → from < 2 ^ w → Rewriting w from f old from old
+  rewriting-start e h = record { left = left-start h; done = rewritten-start e (seen-start from) }
 
-  pub marked-turn : {todo x : ℕ} {l : List ℕ} → Marked w from f old todo l → (todo ≡ 0 → ⊥) → x ≡ f (getD l (trailingZeros w todo) 0)
-      → Marked w from f old (bitAnd todo (todo - 1)) (set l (trailingZeros w todo) x)
-  marked-turn m ne v =
+  pub rewriting-turn : {todo x : ℕ} {l : List ℕ} → Rewriting w from f old todo l → (todo ≡ 0 → ⊥) → x ≡ f (getD l (trailingZeros w todo) 0)
+      → Rewriting w from f old (bitAnd todo (todo - 1)) (set l (trailingZeros w todo) x)
+  rewriting-turn m ne v =
       record { left = left-turn (m .left); done = rewritten-turn (left-adds (m .left) ne) (m .done) (left-inside (m .left) ne) v }
 
-  pub marked-end : {todo : ℕ} {l : List ℕ} → Marked w from f old todo l → todo ≡ 0 → l ≡ tab w (λ p. cond (bit from p) (f (getD old p 0)) (getD old p 0))
-  marked-end {todo} m e = listed (m .done .long) (changed-end (bit from) (λ p q. seen-end from todo e p) (m .done .rows))
+  pub rewriting-end : {todo : ℕ} {l : List ℕ} → Rewriting w from f old todo l → todo ≡ 0 → l ≡ tab w (λ p. cond (bit from p) (f (getD old p 0)) (getD old p 0))
+  rewriting-end {todo} m e = tab-of (m .done .long) (changed-end (bit from) (λ p q. seen-end from todo e p) (m .done .rows))

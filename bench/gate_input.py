@@ -1,0 +1,200 @@
+#!/usr/bin/env python3
+"""The gate's run of the trial program: makes crates/trial/stdin and crates/trial/stdout again, from nothing but this file.
+
+    bench/gate_input.py make            writes both files
+    bench/gate_input.py check           are the files those that `make` writes?
+    bench/gate_input.py pipe PROGRAM    feeds the input to the program by a pipe, in pieces that end in the middle of records
+
+The input is the ten requests that document 01 prints, then requests from a generator, and five bytes that are no whole record. The program reads 64 KiB at
+a time from a file, so the input is longer than that: the last requests are a second batch. One job is opened near the start and asks again at the end, about
+cells that were written by a job of the first batch, which has ended since.
+
+The replies are not the arbiter's. They come from the class `Whole`, which keeps every granted request and decides a step by the precedences of the whole
+kept history. Every code comes up but 6: the program starts from number 1, and 6 wants 4,294,967,295 opens."""
+import os
+import subprocess
+import sys
+import time
+
+OPEN, READ, WRITE, END, ABANDON = 1, 2, 3, 4, 5
+BATCH = 65536
+TOP = os.path.join(os.path.dirname(os.path.abspath(__file__)), "..", "crates", "trial")
+
+
+def request(kind, byte1, cell, job):
+    return bytes([kind, byte1]) + cell.to_bytes(2, "little") + job.to_bytes(4, "little")
+
+
+class Whole:
+    """Answers from the whole kept history."""
+
+    def __init__(self, first):
+        self.next, self.opened, self.gone = first, set(), set()
+        self.steps = []  # (job, cell, is a write), every granted step
+        self.later = {}  # job: the jobs that it precedes
+
+    def precede(self, job, cell, write):
+        """The kept jobs with a step that this one would conflict with."""
+        return {j for j, c, w in self.steps if c == cell and j != job and (w or write)}
+
+    def circle(self, job, before):
+        """Is one of the jobs `before` reached from the job along precedences?"""
+        seen, todo = set(), [job]
+        while todo:
+            for j in self.later.get(todo.pop(), ()):
+                if j not in seen:
+                    seen.add(j)
+                    todo.append(j)
+        return bool(seen & before)
+
+    def ask(self, r):
+        kind, cell, job = r[0], int.from_bytes(r[2:4], "little"), int.from_bytes(r[4:8], "little")
+        if not 1 <= kind <= 5 or r[1] != 0:
+            return 1, 0
+        if kind == OPEN:
+            if self.next > 0xFFFFFFFF:
+                return 6, 0
+            if len(self.opened) - len(self.gone) == 32:
+                return 5, 0
+            self.next += 1
+            self.opened.add(self.next - 1)
+            return 0, self.next - 1
+        if kind in (READ, WRITE) and cell > 255:
+            return 2, 0
+        if job not in self.opened or job in self.gone:
+            return 3, 0
+        if kind in (READ, WRITE):
+            before = self.precede(job, cell, kind == WRITE)
+            if self.circle(job, before):
+                return 7, 0
+            for j in before:
+                self.later.setdefault(j, set()).add(job)
+            self.steps.append((job, cell, kind == WRITE))
+        if kind == ABANDON:
+            if any(j == job and w for j, _, w in self.steps):
+                return 4, 0
+            self.steps = [s for s in self.steps if s[0] != job]
+            self.later.pop(job, None)
+            for js in self.later.values():
+                js.discard(job)
+        if kind in (END, ABANDON):
+            self.gone.add(job)
+        return 0, job
+
+
+class Random:
+    """xorshift: the same numbers from the same seed everywhere."""
+
+    def __init__(self, seed):
+        self.x = seed
+
+    def below(self, n):
+        x = self.x
+        x ^= x << 13 & 0xFFFFFFFFFFFFFFFF
+        x ^= x >> 7
+        self.x = x = x ^ (x << 17 & 0xFFFFFFFFFFFFFFFF)
+        return (x >> 20) % n
+
+
+# How many jobs the generator opens at most, of how many cells it takes one, how many of a hundred requests are bad, how many of a hundred leavings are abandons.
+SHAPES = [(6, 8, 4, 20), (33, 40, 4, 20), (12, 6, 4, 60), (10, 240, 40, 20)]
+
+
+def some(r, shape, live):
+    """A request that is likely to be granted, or one that is not. `live` are the jobs that the generator knows to be open."""
+    most, cells, bad, abandons = shape
+    job = live[r.below(len(live))] if live else 0
+    if r.below(100) < bad:
+        return [
+            request(r.below(256), 0, r.below(300), job),
+            request(1 + r.below(5), 1 << r.below(8), r.below(300), job),
+            request(2 + r.below(2), 0, 256 + r.below(65280), job),
+            request(2 + r.below(4), 0, r.below(250), r.below(0x100000000)),
+            request(2 + r.below(4), 0, r.below(250), max(0, job - 1 - r.below(9))),
+        ][r.below(5)]
+    if not live or (len(live) < most and r.below(4) == 0):
+        return request(OPEN, 0, r.below(65536), r.below(0x100000000))
+    if r.below(8 if len(live) < most else 4) == 0:
+        return request(ABANDON if r.below(100) < abandons else END, 0, r.below(65536), job)
+    return request(2 + r.below(2), 0, r.below(cells), job)
+
+
+def make():
+    """The input and the output."""
+    whole, data, out, live = Whole(1), bytearray(), ["request code job"], []
+
+    def ask(r):
+        code, job = whole.ask(r)
+        out.append("%d %d %d" % (len(data) // 8, code, job))
+        data.extend(r)
+        if code == 0 and r[0] == OPEN:
+            live.append(job)
+        if code == 0 and r[0] in (END, ABANDON):
+            live.remove(job)
+        return code, job
+
+    # document 01's ten
+    for kind, cell, job in [(OPEN, 0, 0), (OPEN, 0, 0), (READ, 5, 1), (READ, 5, 2), (WRITE, 5, 2), (END, 0, 2), (WRITE, 5, 1), (WRITE, 256, 1), (ABANDON, 0, 1), (READ, 5, 1)]:
+        ask(request(kind, 0, cell, job))
+    # one job reads cell 250 and stays; another writes cells 250 and 251 and ends. The generator takes no cell from 250 on but in bad requests
+    stays = ask(request(OPEN, 0, 0, 0))[1]
+    ask(request(READ, 0, 250, stays))
+    leaves = ask(request(OPEN, 0, 0, 0))[1]
+    for kind, cell in [(WRITE, 250), (WRITE, 251), (END, 0)]:
+        ask(request(kind, 0, cell, leaves))
+    live.remove(stays)
+    r = Random(20240229)
+    while len(data) < BATCH + 8 * 30:
+        ask(some(r, SHAPES[len(data) // 2048 % len(SHAPES)], live))
+    # in the second batch: what the other job wrote closes a circle, a cell of nobody else does not
+    live.append(stays)
+    assert ask(request(READ, 0, 251, stays))[0] == 7
+    assert ask(request(WRITE, 0, 252, stays))[0] == 0
+    assert ask(request(ABANDON, 0, 0, stays))[0] == 4
+    assert ask(request(END, 0, 0, stays))[0] == 0
+    tail = bytes([OPEN, 0, 0, 0, 0])
+    out.append("tail %d" % len(tail))
+    return bytes(data) + tail, ("\n".join(out) + "\n").encode()
+
+
+def pipe(program, data, out):
+    """The program's output where the input comes by a pipe, a piece at a time."""
+    for size in (9973, 40961, 65531):
+        child = subprocess.Popen([program], stdin=subprocess.PIPE, stdout=subprocess.PIPE)
+        pid = os.fork()
+        if pid == 0:
+            child.stdout.close()
+            for i in range(0, len(data), size):
+                child.stdin.write(data[i : i + size])
+                child.stdin.flush()
+                time.sleep(0.02)
+            os._exit(0)
+        child.stdin.close()
+        said = child.stdout.read()
+        os.waitpid(pid, 0)
+        child.wait()
+        print("pieces of %d bytes: %s" % (size, "as expected" if said == out else "DIFFERS"))
+        if said != out:
+            return 1
+    return 0
+
+
+def main():
+    words = sys.argv[1:] or ["check"]
+    data, out = make()
+    codes = [line.split()[1] for line in out.decode().splitlines()[1:-1]]
+    print("%d bytes; of each code %s" % (len(data), ", ".join("%s %d" % (c, codes.count(c)) for c in sorted(set(codes)))))
+    if words[0] == "make":
+        for name, content in (("stdin", data), ("stdout", out)):
+            with open(os.path.join(TOP, name), "wb") as f:
+                f.write(content)
+        return 0
+    if words[0] == "pipe":
+        return pipe(words[1], data, out)
+    same = all(open(os.path.join(TOP, name), "rb").read() == content for name, content in (("stdin", data), ("stdout", out)))
+    print("%d passed, %d failed" % (same, not same))
+    return not same
+
+
+if __name__ == "__main__":
+    sys.exit(main())
