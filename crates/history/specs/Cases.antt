@@ -4,6 +4,7 @@
 -- A case is a first number, the requests each with the reply expected of it, the order of the history that they leave, the places of the
 -- steps in that order's layout, and whether it is the only order. The statement holds every reply, code and job, to what the full history
 -- gives and to what the bounded memory gives. What `only-one` means is proved in Promises (`tried`).
+-- After them, 6 before 5 (`numbers-before-slots`), and the example of the rules, its bytes too (`rules-replies`, `rules-read`).
 -- Assumes nothing.
 use mathlib.Core.Path.{_≡_, refl, sym, ap, _∙_}
 use mathlib.Core.Bool.{Bool, true, false}
@@ -15,6 +16,7 @@ use Rattle.graph.specs.Reach.{circular}
 use Rattle.graph.specs.Listing.{ready, lowest-first, forced}
 use Rattle.history.specs.Events.{History, opened, ended, abandoned, kept, open-now, all-steps, kept-steps, wrote, conflict, precedes, has-circle}
 use Rattle.history.specs.Replies.{Request, Reply, want, tests, code-of, event-of, job-of, reply-of, granted-of, full, reply, after, replies, history-of}
+use Rattle.history.specs.Formats.{records}
 use Rattle.history.specs.Orders.{layout, order-of}
 use Rattle.history.specs.Memory.{fresh, meets, touches, same-kind, step-in, blank, fold, right, open-in, move, held, held-replies}
 
@@ -344,3 +346,48 @@ full-and-spent = opens-from 32 4_294_967_264 ++ open-one gets refused 6 ∷ []
 pub numbers-before-slots : replies 4_294_967_264 (map (λ e. e .asked) full-and-spent) ≡ map (λ e. e .answered) full-and-spent
 unfolding reply reply-of code-of tests want job-of full after granted-of event-of opened ended abandoned kept open-now
 numbers-before-slots = refl
+
+-- ---- the example of the rules, R139
+
+-- job 1 wrote what job 2 read, so it may not read what 2 wrote, nor be abandoned; the cell of an end and both fields of an open are not looked at
+abbrev pub rules-example : Case
+rules-example =
+    record {
+      first = 1;
+      exchanges =
+          open-one gets granted 1 ∷ open-one gets granted 2
+          ∷ writes 1 7 gets granted 1 ∷ reads 2 7 gets granted 2 ∷ writes 2 9 gets granted 2 ∷ end 2 gets granted 2
+          ∷ reads 1 9 gets refused 7 ∷ abandon 1 gets refused 4
+          ∷ record { kind = 4; byte1 = 0; cell = 65_535; job = 1 } gets granted 1
+          ∷ reads 3 300 gets refused 2
+          ∷ record { kind = 1; byte1 = 0; cell = 9; job = 9 } gets granted 3
+          ∷ reads 1 0 gets refused 3 ∷ [];
+      order = some (1 ∷ 2 ∷ 3 ∷ []);
+      laid-out = 2 ∷ 3 ∷ 4 ∷ [];
+      only-one = false;
+    }
+
+pub rules-replies : computed rules-example ≡ expected rules-example
+unfolding computed
+rules-replies = refl
+
+-- its bytes, with the three that are left over at the end
+abbrev pub rules-bytes : List ℕ
+rules-bytes =
+    1 ∷ 0 ∷ 0 ∷ 0 ∷ 0 ∷ 0 ∷ 0 ∷ 0
+    ∷ 1 ∷ 0 ∷ 0 ∷ 0 ∷ 0 ∷ 0 ∷ 0 ∷ 0
+    ∷ 3 ∷ 0 ∷ 7 ∷ 0 ∷ 1 ∷ 0 ∷ 0 ∷ 0
+    ∷ 2 ∷ 0 ∷ 7 ∷ 0 ∷ 2 ∷ 0 ∷ 0 ∷ 0
+    ∷ 3 ∷ 0 ∷ 9 ∷ 0 ∷ 2 ∷ 0 ∷ 0 ∷ 0
+    ∷ 4 ∷ 0 ∷ 0 ∷ 0 ∷ 2 ∷ 0 ∷ 0 ∷ 0
+    ∷ 2 ∷ 0 ∷ 9 ∷ 0 ∷ 1 ∷ 0 ∷ 0 ∷ 0
+    ∷ 5 ∷ 0 ∷ 0 ∷ 0 ∷ 1 ∷ 0 ∷ 0 ∷ 0
+    ∷ 4 ∷ 0 ∷ 255 ∷ 255 ∷ 1 ∷ 0 ∷ 0 ∷ 0
+    ∷ 2 ∷ 0 ∷ 44 ∷ 1 ∷ 3 ∷ 0 ∷ 0 ∷ 0
+    ∷ 1 ∷ 0 ∷ 9 ∷ 0 ∷ 9 ∷ 0 ∷ 0 ∷ 0
+    ∷ 2 ∷ 0 ∷ 0 ∷ 0 ∷ 1 ∷ 0 ∷ 0 ∷ 0
+    ∷ 1 ∷ 0 ∷ 0
+    ∷ []
+
+pub rules-read : records rules-bytes ≡ requests-of rules-example
+rules-read = refl

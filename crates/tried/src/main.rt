@@ -1,19 +1,16 @@
-// The tried histories, logs and orders, read from standard input and run on the code. How they are written stands at the start of `stdin`.
+// The tried histories, states, logs and orders, read from standard input and run on the code. How they are written stands at the start of `stdin`.
 //
-// Each request is made twice, by the step by value and by the core in place; the two states are compared after it, number by number, and the reply with
-// the one expected. A line for each: the request (kind, byte 1, cell, job), the reply (code, job), for a granted open the slot that holds the new number,
-// and a mark where a reply or the states differ.
+// Each request is made twice, by the step by value and by the core in place. The replies are compared with the one expected, and the two next states with
+// each other, number by number; where the text says what is left, with that too. A granted open is to put its job into the lowest slot that was free. The
+// checker and the lister are asked of the log that was read last: code and place are compared, and of a lent list every entry.
 //
-// The checker and the lister are asked of the log that was read last. A line for each verdict: what was asked, the code, the place, for a listed order its
-// jobs, and a mark where the verdict, or an entry of the lent list, is not the one expected. A line that cannot be read is shown as a bad one. The counts
-// come at the end.
+// Nothing is written of what is as expected but the counts, at the end. What is not, and a line that cannot be read, is shown with its number.
 ghost use Prim.Native.Nat.{_≤_};
 ghost use lib.ListN.{length};
 use arbiter::Answer;
 use arbiter::JobNumber;
 use arbiter::State;
 use arbiter::Stepped;
-use orders::Listed;
 
 // ---- what is written
 
@@ -21,14 +18,9 @@ fn say(words: &[u8]) {
     io::write_all(libc::STDOUT_FILENO, words);
 }
 
-fn end_line() {
-    say(b"\n");
-}
-
-// A blank, then the number.
-fn say_number(n: u64) {
-    say(b" ");
-    io::print_decimal(libc::STDOUT_FILENO, n);
+fn say_count(count: u64, words: &[u8]) {
+    io::print_decimal(libc::STDOUT_FILENO, count);
+    say(words);
 }
 
 // ---- what is read
@@ -56,18 +48,12 @@ fn grown(value: u64, byte: u8, is_word: bool) -> u64 {
         return NO_NUMBER;
     }
     if is_word {
-        if byte < b'a' {
-            return NO_NUMBER;
-        }
-        if b'z' < byte {
+        if (byte < b'a') | (b'z' < byte) {
             return NO_NUMBER;
         }
         return value * 256 + byte as u64;
     }
-    if byte < b'0' {
-        return NO_NUMBER;
-    }
-    if b'9' < byte {
+    if (byte < b'0') | (b'9' < byte) {
         return NO_NUMBER;
     }
     value * 10 + (byte % 16) as u64
@@ -91,7 +77,7 @@ fn find(line: &[u8], at: usize, is_word: bool, most: u64) -> Found {
         value = next;
         end += 1;
     }
-    if end == at || most < value {
+    if (end == at) | (most < value) {
         end = NOWHERE;
     }
     Found {
@@ -125,95 +111,21 @@ fn kind_of(line: &[u8], at: usize) -> Found {
     }
 }
 
-// A row: the request, and the code and the job of the reply expected of it.
-struct Row {
-    kind: u64,
-    byte1: u64,
-    cell: u64,
-    job: u64,
-    code: u64,
-    holder: u64,
-}
-
-// What a line is: a comment or nothing; the start of a history with its first number; a row; a line of a log, with the bytes of the log after it; or a line
-// that is judged already: 1 for a verdict and 0 for a bad line, and whether it is right.
-enum Line {
-    Nothing,
-    History(u64),
-    Request(Row),
-    Log(usize),
-    Judged(u64, bool),
-}
-
-// A bad line is shown.
-fn bad(line: &[u8]) -> Line {
-    say(b"BAD LINE ");
-    say(line);
-    end_line();
-    Line::Judged(0, false)
-}
-
-// What is expected, as a line says it past a colon: a code, and the job or the place that goes with it. What is asked ends at `asked`, all of it at `end`.
+// What is expected, as a line says it past a colon: a code, and the job or the place that goes with it.
 struct Wanted {
-    asked: usize,
     code: u64,
     number: u64,
     end: usize,
 }
 
 fn want_of(line: &[u8], at: usize) -> Wanted {
-    let asked = past(line, at, b':');
-    let code = field(line, asked, 255);
+    let code = field(line, past(line, at, b':'), 255);
     let number = field(line, code.end, 4294967295);
     Wanted {
-        asked: asked,
         code: code.value,
         number: number.value,
         end: number.end,
     }
-}
-
-// What is asked is written as it stands in the line.
-fn say_asked(line: &[u8], asked: usize) {
-    if line.len() < asked {
-        return;
-    }
-    say(&line[0..asked]);
-}
-
-fn row_of(line: &[u8]) -> Line {
-    let kind = kind_of(line, 0);
-    let byte1 = field(line, kind.end, 255);
-    let cell = field(line, byte1.end, 65535);
-    let job = field(line, cell.end, 4294967295);
-    let reply = want_of(line, job.end);
-    if reply.end != line.len() {
-        return bad(line);
-    }
-    say_asked(line, reply.asked);
-    Line::Request(Row {
-        kind: kind.value,
-        byte1: byte1.value,
-        cell: cell.value,
-        job: job.value,
-        code: reply.code,
-        holder: reply.number,
-    })
-}
-
-// The start of a history is written as it is read: the name, and the first number.
-fn title(line: &[u8], at: usize) -> Line {
-    let first = field(line, at, 4294967295);
-    let name = past(line, first.end, b' ');
-    if line.len() <= name {
-        return bad(line);
-    }
-    end_line();
-    say(&line[name..]);
-    say(b", first number");
-    say_number(first.value);
-    end_line();
-    Line::History(first.value)
 }
 
 // ---- runs of numbers
@@ -251,51 +163,377 @@ fn count_of(line: &[u8], at: usize) -> Found {
     count
 }
 
-// The job past a blank, or the run of jobs.
+// The number past a blank, or the run of numbers.
 fn run_of(line: &[u8], at: usize) -> Run {
-    let job = field(line, at, 4294967295);
-    let step = step_of(line, job.end);
+    let first = field(line, at, 4294967295);
+    let step = step_of(line, first.end);
     let count = count_of(line, step.end);
     Run {
-        value: job.value,
+        value: first.value,
         step: step.value,
         count: count.value,
         end: count.end,
     }
 }
 
-// Puts the numbers of a run into a list, from the place given, as far as there is room. The place past them, which may be past the room.
-fn fill(list: &mut [u32; 600], at: u64, run: Run) -> u64 {
-    let entries = &mut list[..];
-    let end = std::num::wrapping_add_u64(at, run.count);
+// A list, how many jobs were put into it from its start, which may be more than there is room for, and the place past them in the line.
+struct Jobs {
+    list: [u32; 600],
+    count: u64,
+    end: usize,
+}
+
+fn list_in(jobs: Jobs) -> [u32; 600] {
+    jobs.list
+}
+
+// Puts the numbers of a run behind the jobs of a list, as far as there is room.
+fn fill(before: Jobs, run: Run) -> Jobs {
+    let end = std::num::wrapping_add_u64(before.count, run.count);
+    let mut after = before;
     let mut value = run.value;
-    let mut i = at;
+    let mut i = before.count;
     while i < 600 && i < end {
-        entries[i as usize] = (value % 4294967296) as u32;
+        after.list[i as usize] = (value % 4294967296) as u32;
         value = std::num::wrapping_add_u64(value, run.step);
         i += 1;
     }
-    end
+    after.count = end;
+    after.end = run.end;
+    after
 }
 
-// The jobs from the place given on, each past a blank, put into a list from its start: how many they are, and the place past them.
-fn jobs_of(line: &[u8], at: usize, list: &mut [u32; 600]) -> Found {
-    let mut count: u64 = 0;
-    let mut end = at;
+// The jobs from the place given on, each past a blank, put into a list from its start.
+fn jobs_of(line: &[u8], at: usize, list: [u32; 600]) -> Jobs {
+    let mut found = Jobs {
+        list: list,
+        count: 0,
+        end: at,
+    };
     let mut turns: usize = 0;
     while turns < 600 {
-        let run = run_of(line, end);
+        let run = run_of(line, found.end);
         if run.end == NOWHERE {
             break;
         }
-        count = fill(list, count, run);
-        end = run.end;
+        found = fill(found, run);
         turns += 1;
     }
-    Found {
-        value: count,
-        end: end,
+    found
+}
+
+// ---- where a run stands
+
+// The state; the state that is being written, or that the next request is to leave, and whether it is; the bytes of the log. How many requests, states and
+// verdicts were compared, and how many lines were not as expected; of the last of them the code and the number that came.
+struct Turn {
+    now: State,
+    want: State,
+    made: bool,
+    used: usize,
+    requests: u64,
+    states: u64,
+    verdicts: u64,
+    differ: u64,
+    code: u64,
+    number: u64,
+}
+
+// What came of a line: whether it is as expected, a code and a number, and how many verdicts it was.
+struct Came {
+    right: bool,
+    code: u64,
+    number: u64,
+    verdicts: u64,
+}
+
+// Code 99, which is none: the line cannot be read.
+fn unread() -> Came {
+    Came {
+        right: false,
+        code: 99,
+        number: 0,
+        verdicts: 0,
     }
+}
+
+fn judged(before: Turn, came: Came) -> Turn {
+    let mut after = before;
+    after.verdicts = std::num::wrapping_add_u64(before.verdicts, came.verdicts);
+    if came.right {
+        return after;
+    }
+    after.differ = std::num::wrapping_add_u64(before.differ, 1);
+    after.code = came.code;
+    after.number = came.number;
+    after
+}
+
+// ---- requests
+
+fn low(x: u64) -> u8 {
+    (x % 256) as u8
+}
+
+// The eight bytes of a request.
+fn request(kind: u64, byte1: u64, cell: u64, job: u64) -> [u8; 8] {
+    [
+        low(kind),
+        low(byte1),
+        low(cell),
+        low(cell / 256),
+        low(job),
+        low(job / 256),
+        low(job / 65536),
+        low(job / 16777216),
+    ]
+}
+
+// Are two states the same, number by number? Each slot has 16 words of the sets.
+fn same_state(a: State, b: State) -> bool {
+    let mut same = (a.next == b.next) & (a.free == b.free);
+    let mut i: usize = 0;
+    while i < 512 {
+        let slot = i / 16;
+        same = same
+            & (a.numbers[slot] == b.numbers[slot])
+            & (a.leads[slot] == b.leads[slot])
+            & (a.sets[i] == b.sets[i]);
+        i += 1;
+    }
+    same
+}
+
+// Is the job in the lowest of the slots that were free?
+fn took_lowest(free: u32, state: State, job: u32) -> bool {
+    let now = state.free;
+    let mut slot: u32 = 0;
+    while slot < 32 {
+        if (free >> slot) & 1 == 1 {
+            return ((now >> slot) & 1 == 0) & (state.numbers[slot as usize] == job);
+        }
+        slot += 1;
+    }
+    false
+}
+
+// One request in place, on the arrays of a state.
+fn in_place(state: State, asked: [u8; 8]) -> Stepped {
+    let mut numbers = state.numbers;
+    let mut leads = state.leads;
+    let mut sets = state.sets;
+    let moved = arbiter::step_in_place(
+        state.next,
+        state.free,
+        &mut numbers,
+        &mut leads,
+        &mut sets,
+        asked,
+    );
+    let answer = moved.answer;
+    Stepped {
+        state: State {
+            next: moved.next,
+            free: moved.free,
+            numbers: numbers,
+            leads: leads,
+            sets: sets,
+        },
+        answer: answer,
+    }
+}
+
+// Is the answer the one expected?
+fn as_expected(answer: Answer, want: Wanted) -> bool {
+    (answer.code() as u64 == want.code) & (answer.job().0 as u64 == want.number)
+}
+
+// One request, both ways.
+fn ask(before: Turn, asked: [u8; 8], opens: bool, want: Wanted) -> Turn {
+    let state = before.now;
+    let left = before.want;
+    let one = state.step(asked);
+    let other = in_place(state, asked);
+    let a = one.state;
+    let b = other.state;
+    let x = one.answer;
+    let y = other.answer;
+    let code = x.code();
+    let job = x.job().0;
+    let right = as_expected(x, want)
+        & as_expected(y, want)
+        & same_state(a, b)
+        & (same_state(a, left) | !before.made)
+        & (took_lowest(state.free, a, job) | !opens | (code != 0));
+    let came = Came {
+        right: right,
+        code: code as u64,
+        number: job as u64,
+        verdicts: 0,
+    };
+    let mut after = judged(before, came);
+    after.now = a;
+    after.want = a;
+    after.made = false;
+    after.requests = std::num::wrapping_add_u64(before.requests, 1);
+    after
+}
+
+fn row_of(line: &[u8], before: Turn) -> Turn {
+    let kind = kind_of(line, 0);
+    let byte1 = field(line, kind.end, 255);
+    let cell = field(line, byte1.end, 65535);
+    let job = field(line, cell.end, 4294967295);
+    let want = want_of(line, job.end);
+    if want.end != line.len() {
+        return judged(before, unread());
+    }
+    ask(
+        before,
+        request(kind.value, byte1.value, cell.value, job.value),
+        kind.value == 1,
+        want,
+    )
+}
+
+// ---- states
+
+// A state with that next number: all ones, or with no slot open and nothing held.
+fn begin(next: u64, full: bool) -> State {
+    if full {
+        return State {
+            next: next,
+            free: 0,
+            numbers: [0xffff_ffff; 32],
+            leads: [0xffff_ffff; 32],
+            sets: [0xffff_ffff_ffff_ffff; 512],
+        };
+    }
+    let mut state = State::fresh(JobNumber((next % 4294967296) as u32));
+    if 4294967295 < next {
+        state.next = next;
+    }
+    state
+}
+
+// The start of a history or of a made-up state: the next number, and a name.
+fn title(line: &[u8], at: usize, before: Turn, full: bool) -> Turn {
+    let next = field(line, at, NO_NUMBER);
+    if line.len() <= past(line, next.end, b' ') {
+        return judged(before, unread());
+    }
+    let state = begin(next.value, full);
+    let mut after = before;
+    after.now = state;
+    after.want = state;
+    after.made = false;
+    after
+}
+
+// The mask with the slot in or out.
+fn freed(free: u32, slot: u64, open: bool) -> u32 {
+    let mark = 1u32 << (slot % 32);
+    if open {
+        return free & !mark;
+    }
+    free | mark
+}
+
+// A row for each slot of a run: open or not, the number, the slots that it leads to.
+fn put_rows(state: State, slots: Run, open: bool, number: u32, leads: u32) -> State {
+    let count = slots.count;
+    let mut after = state;
+    let mut slot = slots.value;
+    let mut i: u64 = 0;
+    while i < count {
+        let at = (slot % 32) as usize;
+        after.free = freed(after.free, slot, open);
+        after.numbers[at] = number;
+        after.leads[at] = leads;
+        slot = std::num::wrapping_add_u64(slot, slots.step);
+        i += 1;
+    }
+    after
+}
+
+// A state, and whether the line that changed it could be read.
+struct Edited {
+    state: State,
+    fine: bool,
+}
+
+fn rows_of(line: &[u8], at: usize, state: State) -> Edited {
+    let slots = run_of(line, at);
+    let open = field(line, slots.end, 1);
+    let number = field(line, open.end, 4294967295);
+    let leads = field(line, number.end, 4294967295);
+    let edited = put_rows(
+        state,
+        slots,
+        open.value == 1,
+        (number.value % 4294967296) as u32,
+        (leads.value % 4294967296) as u32,
+    );
+    Edited {
+        state: edited,
+        fine: (leads.end == line.len()) & (slots.value < 32),
+    }
+}
+
+// The cells of a run put into a set, or taken out where they are in: the set's first word is given.
+fn put_cells(state: State, word: usize, cells: Run) -> State
+    requires { ⌜ word ≤ 508 ⌝ }
+{
+    let count = cells.count;
+    let mut after = state;
+    let mut cell = cells.value;
+    let mut i: u64 = 0;
+    while i < count {
+        let at = word + (cell % 256 / 64) as usize;
+        after.sets[at] = after.sets[at] ^ (1u64 << (cell % 64));
+        cell = std::num::wrapping_add_u64(cell, cells.step);
+        i += 1;
+    }
+    after
+}
+
+fn cells_of(line: &[u8], at: usize, state: State) -> Edited {
+    let slot = field(line, at, 31);
+    let set = field(line, slot.end, 3);
+    let cells = run_of(line, set.end);
+    let word = (slot.value % 32) * 16 + (set.value % 4) * 4;
+    let edited = put_cells(state, word as usize, cells);
+    Edited {
+        state: edited,
+        fine: (cells.end == line.len()) & (cells.value < 256),
+    }
+}
+
+fn written(before: Turn, edited: Edited) -> Turn {
+    if !edited.fine {
+        return judged(before, unread());
+    }
+    let state = edited.state;
+    let mut after = before;
+    after.want = state;
+    after
+}
+
+// What was written is the state. What is written from now on is what the next request is to leave.
+fn left_of(line: &[u8], at: usize, before: Turn) -> Turn {
+    let next = field(line, at, NO_NUMBER);
+    if next.end != line.len() {
+        return judged(before, unread());
+    }
+    let state = before.want;
+    let mut want = before.want;
+    want.next = next.value;
+    let mut after = before;
+    after.now = state;
+    after.want = want;
+    after.made = true;
+    after.states = std::num::wrapping_add_u64(before.states, 1);
+    after
 }
 
 // ---- the log
@@ -338,29 +576,8 @@ fn put_records(
     end
 }
 
-// The start of a log is written as it is read.
-fn log_title(line: &[u8], at: usize) -> Line {
-    if line.len() <= past(line, at, b' ') {
-        return bad(line);
-    }
-    end_line();
-    say(line);
-    end_line();
-    Line::Log(0)
-}
-
-// The log with what a line adds to it: a bad line where that is not all of the line, or is more than 4,097 records and 7 bytes.
-fn longer(line: &[u8], at: usize, used: usize) -> Line {
-    if at != line.len() {
-        return bad(line);
-    }
-    if 32783 < used {
-        return bad(line);
-    }
-    Line::Log(used)
-}
-
-fn records_of(line: &[u8], at: usize, log: &mut [u8; 32784], used: usize) -> Line {
+// The bytes of the log with what a line adds to it, and nowhere where the line cannot be read.
+fn records_of(line: &[u8], at: usize, log: &mut [u8; 32784], used: usize) -> usize {
     let kind = kind_of(line, past(line, at, b' '));
     let byte1 = field(line, kind.end, 255);
     let cell = field(line, byte1.end, 65535);
@@ -375,18 +592,30 @@ fn records_of(line: &[u8], at: usize, log: &mut [u8; 32784], used: usize) -> Lin
         step.value,
         jobs,
     );
-    longer(line, jobs.end, end)
+    if jobs.end != line.len() {
+        return NOWHERE;
+    }
+    end
 }
 
 // Eight bytes of zero are put, and some of them counted.
-fn tail_bytes(line: &[u8], at: usize, log: &mut [u8; 32784], used: usize) -> Line {
+fn tail_bytes(line: &[u8], at: usize, log: &mut [u8; 32784], used: usize) -> usize {
     let count = field(line, at, 7);
     let whole = put(log, used, [0; 8]);
-    if whole == NOWHERE || count.value == 0 {
-        return bad(line);
+    if (whole == NOWHERE) | (count.value == 0) | (count.end != line.len()) {
+        return NOWHERE;
     }
-    let end = std::num::wrapping_add_u64(used as u64, count.value);
-    longer(line, count.end, end as usize)
+    std::num::wrapping_add_u64(used as u64, count.value) as usize
+}
+
+// A bad line where the log has more than 4,097 records and 7 bytes then.
+fn logged(before: Turn, used: usize) -> Turn {
+    if 32783 < used {
+        return judged(before, unread());
+    }
+    let mut after = before;
+    after.used = used;
+    after
 }
 
 // ---- verdicts
@@ -400,65 +629,44 @@ fn part(log: &[u8; 32784], used: usize) -> &[u8] {
     &bytes[0..used]
 }
 
-// Writes a verdict. Is it the one expected?
-fn say_verdict(code: u64, place: u64, want: Wanted) -> bool {
-    say_number(code);
-    say_number(place);
-    code == want.code && place == want.number
-}
-
-// A mark where a verdict, or the list with it, is not the one expected.
-fn say_expected(want: Wanted, right: bool) {
-    if right {
-        return;
+// Is the verdict the one expected, and the list with it?
+fn compared(code: u32, place: usize, want: Wanted, list: bool) -> Came {
+    let number = place as u64;
+    Came {
+        right: (code as u64 == want.code) & (number == want.number) & list,
+        code: code as u64,
+        number: number,
+        verdicts: 1,
     }
-    say(b" DIFFERS, expected");
-    say_number(want.code);
-    say_number(want.number);
 }
 
-// What the checker says of the first jobs of a list, so many. Is it as expected?
-fn check(log: &[u8], jobs: &[u32; 600], count: usize, want: Wanted) -> bool
-    requires { ⌜ count ≤ 600 ⌝ }
-{
-    let entries = &jobs[..];
-    let found = orders::check_order(log, &entries[0..count]);
-    let right = say_verdict(found.code() as u64, found.place() as u64, want);
-    say_expected(want, right);
-    end_line();
-    right
-}
-
-fn order_of(line: &[u8], at: usize, log: &[u8]) -> Line {
-    let mut jobs = [0u32; 600];
-    let named = jobs_of(line, at, &mut jobs);
-    let count = named.value as usize;
+fn order_of(line: &[u8], at: usize, log: &[u8]) -> Came {
+    let named = jobs_of(line, at, [0; 600]);
     let want = want_of(line, named.end);
-    if want.end != line.len() {
-        return bad(line);
+    if (want.end != line.len()) | (600 < named.count) {
+        return unread();
     }
-    if 600 < count {
-        return bad(line);
-    }
-    say_asked(line, want.asked);
-    Line::Judged(1, check(log, &jobs, count, want))
+    let list = list_in(named);
+    let count = (named.count % 601) as usize;
+    let found = orders::check_order(log, &list[0..count]);
+    compared(found.code(), found.place(), want, true)
 }
 
 // A lent list before it is lent: each entry is 4,294,967,295 less its place.
 fn unlisted() -> [u32; 600] {
-    let mut list = [0u32; 600];
     let step = std::num::wrapping_sub_u64(0, 1);
-    fill(
-        &mut list,
-        0,
-        Run {
-            value: 4294967295,
-            step: step,
-            count: 600,
-            end: 0,
-        },
-    );
-    list
+    let empty = Jobs {
+        list: [0; 600],
+        count: 0,
+        end: 0,
+    };
+    let all = Run {
+        value: 4294967295,
+        step: step,
+        count: 600,
+        end: 0,
+    };
+    list_in(fill(empty, all))
 }
 
 // Are two lists the same, entry by entry?
@@ -472,313 +680,75 @@ fn same_list(a: [u32; 600], b: [u32; 600]) -> bool {
     same
 }
 
-// The job at a place of a list of so many; of more than 16, only the first four and the last four.
-fn say_job(job: u32, i: u64, count: u64) {
-    if count <= i {
-        return;
-    }
-    if 16 < count && 4 <= i && 4 < count - i {
-        if i == 4 {
-            say(b" ..");
-        }
-        return;
-    }
-    say_number(job as u64);
-}
-
-// The jobs at the start of a list, so many.
-fn say_jobs(list: [u32; 600], count: u64) {
-    let mut i: usize = 0;
-    while i < 600 {
-        say_job(list[i], i as u64, count);
-        i += 1;
-    }
-}
-
-// The lister's verdict, with the first entries lent to it, so many.
-fn list_part(log: &[u8], entries: &mut [u32], room: usize) -> Listed
-    requires { ⌜ room ≤ length (now entries) ⌝ }
-{
-    orders::list_order(log, &mut entries[0..room])
-}
-
-fn list_into(log: &[u8], list: &mut [u32; 600], room: usize) -> Listed
-    requires { ⌜ room ≤ 600 ⌝ }
-{
-    let entries = &mut list[..];
-    list_part(log, entries, room)
-}
-
-// What the lister says, and puts into a list lent to it. Is it as expected, with so many jobs at the start of the list?
-fn list(log: &[u8], room: usize, expected: [u32; 600], count: u64, want: Wanted) -> bool
-    requires { ⌜ room ≤ 600 ⌝ }
-{
+fn list_of(line: &[u8], at: usize, log: &[u8]) -> Came {
     let mut lent = unlisted();
-    let found = list_into(log, &mut lent, room);
-    let said = say_verdict(found.code() as u64, found.place() as u64, want);
-    if found.code() == 0 {
-        say_jobs(lent, found.place() as u64);
-    }
-    let right = said && same_list(lent, expected);
-    say_expected(want, right);
-    if !right {
-        say_jobs(expected, count);
-    }
-    end_line();
-    right
-}
-
-fn list_of(line: &[u8], at: usize, log: &[u8]) -> Line {
-    let mut expected = unlisted();
     let room = field(line, at, 600);
-    let entries = room.value as usize;
     let want = want_of(line, room.end);
-    let named = jobs_of(line, want.end, &mut expected);
-    if named.end != line.len() || 600 < named.value {
-        return bad(line);
+    let named = jobs_of(line, want.end, lent);
+    if (named.end != line.len()) | (600 < named.count) {
+        return unread();
     }
-    if 600 < entries {
-        return bad(line);
-    }
-    say_asked(line, want.asked);
-    Line::Judged(1, list(log, entries, expected, named.value, want))
+    let entries = (room.value % 601) as usize;
+    let found = orders::list_order(log, &mut lent[0..entries]);
+    let same = same_list(lent, list_in(named));
+    compared(found.code(), found.place(), want, same)
 }
 
 // ---- a line
 
-fn line_of(line: &[u8], log: &mut [u8; 32784], used: usize) -> Line {
-    if line.len() == 0 {
-        return Line::Nothing;
-    }
-    if line[0] == b'#' {
-        return Line::Nothing;
-    }
+fn line_of(line: &[u8], log: &mut [u8; 32784], before: Turn) -> Turn {
     let word = find(line, 0, true, NO_NUMBER);
     let value = word.value;
     let at = word.end;
+    let used = before.used;
+    let state = before.want;
     match value {
-        // history
-        0x686973746f7279 => title(line, at),
+        // history, state
+        0x686973746f7279 | 0x7374617465 => title(line, at, before, false),
+        // full
+        0x66756c6c => title(line, at, before, true),
+        // row
+        0x726f77 => written(before, rows_of(line, at, state)),
+        // cells
+        0x63656c6c73 => written(before, cells_of(line, at, state)),
+        // left
+        0x6c656674 => left_of(line, at, before),
         // log
-        0x6c6f67 => log_title(line, at),
+        0x6c6f67 => logged(before, 0),
         // record
-        0x7265636f7264 => records_of(line, at, log, used),
+        0x7265636f7264 => logged(before, records_of(line, at, log, used)),
         // tail
-        0x7461696c => tail_bytes(line, at, log, used),
+        0x7461696c => logged(before, tail_bytes(line, at, log, used)),
         // order
-        0x6f72646572 => order_of(line, at, part(log, used)),
+        0x6f72646572 => judged(before, order_of(line, at, part(log, used))),
         // list
-        0x6c697374 => list_of(line, at, part(log, used)),
-        _ => row_of(line),
+        0x6c697374 => judged(before, list_of(line, at, part(log, used))),
+        _ => row_of(line, before),
     }
 }
 
-// ---- one request, both ways
-
-fn low(x: u64) -> u8 {
-    (x % 256) as u8
+// A line that is not as expected: its number, the line, and the code and the number that came.
+fn show(line: &[u8], at: u64, code: u64, number: u64) {
+    say_count(at, b": ");
+    say(line);
+    say(b" IS NOT SO, found ");
+    say_count(code, b" ");
+    say_count(number, b"\n");
 }
 
-// The eight bytes of a request.
-fn request(kind: u64, byte1: u64, cell: u64, job: u64) -> [u8; 8] {
-    [
-        low(kind),
-        low(byte1),
-        low(cell),
-        low(cell / 256),
-        low(job),
-        low(job / 256),
-        low(job / 65536),
-        low(job / 16777216),
-    ]
-}
-
-// Are two states the same, number by number? Each slot has 16 words of the sets.
-fn same_state(a: State, b: State) -> bool {
-    let mut same = (a.next == b.next) & (a.free == b.free);
-    let mut i: usize = 0;
-    while i < 512 {
-        let slot = i / 16;
-        same = same
-            & (a.numbers[slot] == b.numbers[slot])
-            & (a.leads[slot] == b.leads[slot])
-            & (a.sets[i] == b.sets[i]);
-        i += 1;
+// One line. A comment and an empty line are passed over.
+fn go_on(before: Turn, log: &mut [u8; 32784], line: &[u8], number: u64) -> Turn {
+    if line.len() == 0 {
+        return before;
     }
-    same
-}
-
-// Is the answer the one expected?
-fn as_expected(answer: Answer, row: Row) -> bool {
-    if answer.code() as u64 != row.code {
-        return false;
+    if line[0] == b'#' {
+        return before;
     }
-    answer.job().0 as u64 == row.holder
-}
-
-// The lowest open slot that holds the number, and 32 where none does.
-fn slot_of(state: State, job: u32) -> u64 {
-    let free = state.free;
-    let mut slot: u32 = 0;
-    while slot < 32 {
-        if (free >> slot) & 1 == 0 && state.numbers[slot as usize] == job {
-            return slot as u64;
-        }
-        slot += 1;
+    let after = line_of(line, log, before);
+    if after.differ != before.differ {
+        show(line, number, after.code, after.number);
     }
-    32
-}
-
-// The reply, and for a granted open the slot.
-fn say_reply(kind: u64, now: Stepped) {
-    let answer = now.answer;
-    let code = answer.code();
-    let job = answer.job().0;
-    say_number(code as u64);
-    say_number(job as u64);
-    if kind != 1 {
-        return;
-    }
-    if code != 0 {
-        return;
-    }
-    say(b" slot");
-    let state = now.state;
-    say_number(slot_of(state, job));
-}
-
-// A mark where the reply, by value or in place, is not the one expected, and one where the two states differ.
-fn say_marks(row: Row, reply: bool, states: bool) {
-    if !reply {
-        say(b" REPLY DIFFERS, expected");
-        say_number(row.code);
-        say_number(row.holder);
-    }
-    if !states {
-        say(b" STATES DIFFER");
-    }
-    end_line();
-}
-
-// Writes what came of a request. Is all as it should be?
-fn judge(row: Row, by_value: Stepped, in_place: Stepped) -> bool {
-    let one = by_value.answer;
-    let other = in_place.answer;
-    let reply = as_expected(one, row) && as_expected(other, row);
-    let a = by_value.state;
-    let b = in_place.state;
-    let states = same_state(a, b);
-    say_reply(row.kind, in_place);
-    say_marks(row, reply, states);
-    reply && states
-}
-
-// How many requests were made and verdicts asked so far, and how many marks and bad lines there were.
-struct Tally {
-    requests: u64,
-    verdicts: u64,
-    mismatches: u64,
-}
-
-fn counted(tally: Tally, requests: u64, verdicts: u64, right: bool) -> Tally {
-    let mut mismatches = tally.mismatches;
-    if !right {
-        mismatches = std::num::wrapping_add_u64(mismatches, 1);
-    }
-    Tally {
-        requests: std::num::wrapping_add_u64(tally.requests, requests),
-        verdicts: std::num::wrapping_add_u64(tally.verdicts, verdicts),
-        mismatches: mismatches,
-    }
-}
-
-// Where a run stands, beside the lent arrays: the state by value, the rest of the state in place, the bytes of the log, and the counts.
-struct Turn {
-    state: State,
-    next: u64,
-    free: u32,
-    used: usize,
-    tally: Tally,
-}
-
-// A fresh state; the lent arrays of it are zero then. The log stays.
-fn fresh(first: u64, used: usize, tally: Tally) -> Turn {
-    let number = (first % 4294967296) as u32;
-    Turn {
-        state: State::fresh(JobNumber(number)),
-        next: number as u64,
-        free: 0xffff_ffff,
-        used: used,
-        tally: tally,
-    }
-}
-
-// One request. What it left in place is copied out only to be compared.
-fn ask(
-    before: Turn,
-    numbers: &mut [u32; 32],
-    leads: &mut [u32; 32],
-    sets: &mut [u64; 512],
-    row: Row,
-) -> Turn {
-    let asked = request(row.kind, row.byte1, row.cell, row.job);
-    let state = before.state;
-    let by_value = state.step(asked);
-    let moved = arbiter::step_in_place(before.next, before.free, numbers, leads, sets, asked);
-    let answer = moved.answer;
-    let in_place = Stepped {
-        state: State {
-            next: moved.next,
-            free: moved.free,
-            numbers: *numbers,
-            leads: *leads,
-            sets: *sets,
-        },
-        answer: answer,
-    };
-    let right = judge(row, by_value, in_place);
-    let now = by_value.state;
-    let tally = before.tally;
-    Turn {
-        state: now,
-        next: moved.next,
-        free: moved.free,
-        used: before.used,
-        tally: counted(tally, 1, 0, right),
-    }
-}
-
-// What a line asks for.
-fn act(
-    before: Turn,
-    numbers: &mut [u32; 32],
-    leads: &mut [u32; 32],
-    sets: &mut [u64; 512],
-    line: Line,
-) -> Turn {
-    match line {
-        Line::Nothing => before,
-        Line::History(first) => {
-            *numbers = [0; 32];
-            *leads = [0; 32];
-            *sets = [0; 512];
-            let tally = before.tally;
-            fresh(first, before.used, tally)
-        }
-        Line::Request(row) => ask(before, numbers, leads, sets, row),
-        Line::Log(used) => {
-            let mut after = before;
-            after.used = used;
-            after
-        }
-        Line::Judged(verdicts, right) => {
-            let tally = before.tally;
-            let sums = counted(tally, 0, verdicts, right);
-            let mut after = before;
-            after.tally = sums;
-            after
-        }
-    }
+    after
 }
 
 // ---- the text
@@ -795,73 +765,50 @@ fn line_end(text: &[u8], at: usize) -> usize
     end
 }
 
-// One line: what it is, and what it asks for.
-fn go_on(
-    before: Turn,
-    numbers: &mut [u32; 32],
-    leads: &mut [u32; 32],
-    sets: &mut [u64; 512],
-    log: &mut [u8; 32784],
-    line: &[u8],
-) -> Turn {
-    let found = line_of(line, log, before.used);
-    act(before, numbers, leads, sets, found)
-}
-
 // Before the first line: number 0, an empty log.
 fn start() -> Turn {
-    fresh(
-        0,
-        0,
-        Tally {
-            requests: 0,
-            verdicts: 0,
-            mismatches: 0,
-        },
-    )
+    let state = begin(0, false);
+    Turn {
+        now: state,
+        want: state,
+        made: false,
+        used: 0,
+        requests: 0,
+        states: 0,
+        verdicts: 0,
+        differ: 0,
+        code: 0,
+        number: 0,
+    }
 }
 
-// All lines of a text. Rows before the first history start from number 0, and the log is empty before the first one.
-fn all_lines(text: &[u8]) -> Tally {
-    let mut numbers = [0u32; 32];
-    let mut leads = [0u32; 32];
-    let mut sets = [0u64; 512];
+// All lines of a text.
+fn all_lines(text: &[u8]) -> Turn {
     let mut log = [0u8; 32784];
     let mut done = start();
+    let mut number: u64 = 1;
     let mut at: usize = 0;
     while at < text.len() {
         let end = line_end(text, at);
-        done = go_on(
-            done,
-            &mut numbers,
-            &mut leads,
-            &mut sets,
-            &mut log,
-            &text[at..end],
-        );
+        done = go_on(done, &mut log, &text[at..end], number);
         if end == text.len() {
-            return done.tally;
+            return done;
         }
         at = end + 1;
+        number = std::num::wrapping_add_u64(number, 1);
     }
-    done.tally
+    done
 }
 
-fn say_count(count: u64, words: &[u8]) {
-    io::print_decimal(libc::STDOUT_FILENO, count);
-    say(words);
-}
-
-// The counts, at the end. A text that fills the whole buffer may be longer: that is a mismatch too.
-fn say_counts(tally: Tally, cut: bool) {
-    let sums = counted(tally, 0, 0, !cut);
+// The counts. A text that fills the whole buffer may be longer: that is said.
+fn say_counts(done: Turn, cut: bool) {
     if cut {
         say(b"TEXT TOO LONG\n");
     }
-    end_line();
-    say_count(sums.verdicts, b" verdicts\n");
-    say_count(sums.requests, b" requests, ");
-    say_count(sums.mismatches, b" mismatches\n");
+    say_count(done.requests, b" requests, ");
+    say_count(done.states, b" states, ");
+    say_count(done.verdicts, b" verdicts, ");
+    say_count(done.differ, b" mismatches\n");
 }
 
 // ---- inputs that end in the middle of a record
@@ -914,10 +861,9 @@ fn tails() {
 }
 
 fn main() {
-    say(b"kind byte1 cell job: code job slot\n");
     let mut space = io::large_buffer();
     let count = io::read_full(libc::STDIN_FILENO, &mut space);
-    let tally = all_lines(&space[..count]);
-    say_counts(tally, count == 65536);
+    let done = all_lines(&space[..count]);
+    say_counts(done, count == 65536);
     tails();
 }

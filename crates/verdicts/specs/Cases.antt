@@ -1,5 +1,6 @@
 -- Tried logs. What the checker says of a log and a list stands in one table under one statement (`check-cases`); what the lister says of a log, and
--- leaves in the list lent to it, in another (`list-cases`). Both are computed from the definitions. So is P1's log, byte for byte (`p1-bytes`).
+-- leaves in the list lent to it, in another (`list-cases`). Both are computed from the definitions. So is P1's log, byte for byte (`p1-bytes`), and so are the two
+-- requests that the rules write as bytes (`two-read`, `two-written`).
 --
 -- A row has the log, the list handed over, and after `gets` the code and the place expected; after `leaving`, what the list then holds. A log is
 -- what a P case leaves, or is put down record by record, or as bytes. Places count from 0. The limits on a log's bytes and on its jobs are too
@@ -64,6 +65,24 @@ pub p1-bytes : log-after p1 ≡ p1-written
 unfolding computed
 p1-bytes = refl
 
+-- ---- the requests of the rules, R27
+
+-- a read of cell 5 by job 1, and a write of cell 255 by job 70,000
+abbrev pub two-requests : List Request
+two-requests = reads 1 5 ∷ writes 70_000 255 ∷ []
+
+abbrev pub two-bytes : List ℕ
+two-bytes =
+    2 ∷ 0 ∷ 5 ∷ 0 ∷ 1 ∷ 0 ∷ 0 ∷ 0
+    ∷ 3 ∷ 0 ∷ 255 ∷ 0 ∷ 112 ∷ 17 ∷ 1 ∷ 0
+    ∷ []
+
+pub two-read : records two-bytes ≡ two-requests
+two-read = refl
+
+pub two-written : log two-requests ≡ two-bytes
+two-written = refl
+
 -- ---- logs that several rows have
 
 -- 1 precedes 2 by cell 5, at records 2 and 3, and 2 precedes 1 by cell 6, at 4 and 5
@@ -87,6 +106,14 @@ log-a = opens 4 ∷ opens 5 ∷ writes 5 3 ∷ reads 4 3 ∷ []
 
 abbrev pub log-b : List Request
 log-b = log-a ++ writes 5 3 ∷ []
+
+-- 1 precedes 2 by cell 5, at records 4 and 5, and 2 precedes 1 by cell 6, at 6 and 7; but 3 writes both cells over before 4 reads them. So nobody reads what 1 and 2
+-- wrote, nor is it left: run one at a time in the order 1, 2, 3, 4 the jobs would leave what the log left (`same-anyway` of PairsOnly)
+abbrev pub overwritten : List Request
+overwritten =
+    opens 1 ∷ opens 2 ∷ opens 3 ∷ opens 4
+    ∷ writes 1 5 ∷ writes 2 5 ∷ writes 2 6 ∷ writes 1 6
+    ∷ writes 3 5 ∷ writes 3 6 ∷ reads 4 5 ∷ reads 4 6 ∷ []
 
 -- the first job and the last: the last writes cell 255 at record 2, job 0 reads it at record 3
 abbrev pub ends-of-range : List ℕ
@@ -276,11 +303,14 @@ pair-rows =
     -- a circle: whatever the order, one pair is backward
     ∷ circle with 1 ∷ 2 ∷ [] gets 16 at 5
     ∷ circle with 2 ∷ 1 ∷ [] gets 16 at 3
+    -- and so where the values of the pair are read by nobody
+    ∷ log overwritten with 1 ∷ 2 ∷ 3 ∷ 4 ∷ [] gets 16 at 7
+    ∷ log overwritten with 2 ∷ 1 ∷ 3 ∷ 4 ∷ [] gets 16 at 5
     ∷ []
 
 pair-rows-hold : AsExpected pair-rows
 unfolding checked
-pair-rows-hold c = rows checked (λ c. c .expected) (refl, (refl, (refl, (refl, (refl, (refl, (refl, (refl, (refl, (refl, (refl, (refl, (refl, (refl, (refl, (refl, (refl, (refl, tt))))))))))))))))))
+pair-rows-hold c = rows checked (λ c. c .expected) (refl, (refl, (refl, (refl, (refl, (refl, (refl, (refl, (refl, (refl, (refl, (refl, (refl, (refl, (refl, (refl, (refl, (refl, (refl, (refl, tt))))))))))))))))))))
 
 -- numbers and bytes; how many jobs are open
 abbrev pub number-rows : List CheckCase
@@ -346,6 +376,8 @@ list-table =
     ∷ circle into 7 ∷ [] gets 18 at 2 leaving (7 ∷ [])
     -- a circle of 2 and 3; job 1 could have been placed
     ∷ log (opens 1 ∷ opens 2 ∷ opens 3 ∷ writes 2 5 ∷ writes 3 5 ∷ writes 2 5 ∷ []) into 7 ∷ 8 ∷ 9 ∷ [] gets 17 at 0 leaving (7 ∷ 8 ∷ 9 ∷ [])
+    -- a circle of 1 and 2 whose writes nobody reads: 17 speaks of conflicting pairs only, R143
+    ∷ log overwritten into 7 ∷ 8 ∷ 9 ∷ 9 ∷ [] gets 17 at 0 leaving (7 ∷ 8 ∷ 9 ∷ 9 ∷ [])
     -- a circle of 1, 2 and 3, and what is left of it when job 2 is abandoned: 3 precedes 1
     ∷ log (chain ++ reads 1 6 ∷ []) into 7 ∷ 8 ∷ 9 ∷ [] gets 17 at 0 leaving (7 ∷ 8 ∷ 9 ∷ [])
     ∷ log (chain ++ reads 1 6 ∷ abandon 2 ∷ []) into 7 ∷ 8 ∷ 9 ∷ [] gets 0 at 2 leaving (3 ∷ 1 ∷ 9 ∷ [])
@@ -370,7 +402,7 @@ answered c = list-order (c .bytes) (c .lent)
 -- the lister's answer to every row is the one expected, and so is what then stands in the list
 pub list-cases : (c : ListCase) → c ∈ list-table → list-order (c .bytes) (c .lent) ≡ c .expected
 unfolding answered
-list-cases c = rows answered (λ c. c .expected) (refl, (refl, (refl, (refl, (refl, (refl, (refl, (refl, (refl, (refl, (refl, (refl, (refl, (refl, (refl, (refl, (refl, (refl, (refl, (refl, (refl, (refl, (refl, (refl, (refl, (refl, (refl, (refl, tt))))))))))))))))))))))))))))
+list-cases c = rows answered (λ c. c .expected) (refl, (refl, (refl, (refl, (refl, (refl, (refl, (refl, (refl, (refl, (refl, (refl, (refl, (refl, (refl, (refl, (refl, (refl, (refl, (refl, (refl, (refl, (refl, (refl, (refl, (refl, (refl, (refl, (refl, tt)))))))))))))))))))))))))))))
 
 -- ---- the two limits, of any log
 

@@ -3,12 +3,12 @@
 --
 -- In order: a checker has no fixed verdict (`not-fixed`), its place of an accepted order is the count of kept jobs (`count-right`), and its place under a code is no
 -- fixed one (`places-differ`); a lister does not refuse every log (`lists-some`), gives different lists (`lists-differ`), and its place under a code is no fixed one either
--- (`answers-differ`). Each by two worked cases of a table. Code 14 is not among them, as its logs are too long to compute with; that its place is the record's is
+-- (`answers-differ`). Each but `count-right` by two worked cases. Code 14 is not among them, as its logs are too long to compute with; that its place is the record's is
 -- `verdict-only`, as for every code.
 -- Assumes nothing.
 use mathlib.Core.Path.{_≡_, refl, sym, ap, _∙_}
-use mathlib.Core.Bool.{Bool, true, false}
-use mathlib.Core.List.{List, [], _∷_, _++_}
+use mathlib.Core.Bool.{Bool, false}
+use mathlib.Core.List.{List, [], _∷_}
 use Prim.Native.Nat.{ℕ}
 use native.Mathlib.Omega.{arith}
 use lib.Dec.{eqb}
@@ -16,8 +16,8 @@ use lib.ListN.{length}
 use Rattle.graph.specs.Decide.{eq-test, false-is}
 use Rattle.graph.specs.Lists.{_∈_}
 use Rattle.history.specs.Events.{History, kept}
-use Rattle.history.specs.Cases.{reads, writes, p1, p3, rows}
-use Rattle.verdicts.specs.Logs.{Reading, events, read-log}
+use Rattle.history.specs.Cases.{reads, p1, p3, rows}
+use Rattle.verdicts.specs.Logs.{events, read-log}
 use Rattle.verdicts.specs.Verdicts.{Verdict, verdict, check, Listed, list-order}
 use Rattle.verdicts.specs.Cases.{opens, raw, log, log-after, log-a, checked, answered}
 use Rattle.verdicts.specs.VerdictLaws.{Checked, log-faulty, log-read, Judged, bad-entry, job-missing, pair-turned, accepted, Answered, checked-only, answered-only}

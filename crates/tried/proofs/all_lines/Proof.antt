@@ -7,10 +7,10 @@ use Rattle.tried.proofs.all_lines.Statement.{statement}
 use Rattle.tried.proofs.all_lines.Tie as tie
 
 abbrev Inv-loop : tie.InvT-loop
-Inv-loop text numbers₀ leads₀ sets₀ log₀ done₀ at₀ numbers leads sets log done at = Unit {0}
+Inv-loop text log₀ done₀ number₀ at₀ log done number at = Unit {0}
 
 abbrev μ-loop : tie.MeasureT-loop
-μ-loop text numbers₀ leads₀ sets₀ log₀ done₀ at₀ numbers leads sets log done at = length text - at
+μ-loop text log₀ done₀ number₀ at₀ log done number at = length text - at
 
 start-requires : tie.Need-start-requires Inv-loop μ-loop
 start-requires c κs = search needs
@@ -39,6 +39,9 @@ returns c = search needs
 add-at : tie.Need-add-at Inv-loop μ-loop
 add-at c = search needs
 
+wrapping-add-u64-requires : tie.Need-wrapping-add-u64-requires Inv-loop μ-loop
+wrapping-add-u64-requires c κs = search needs
+
 loop-less : tie.Need-loop-less Inv-loop μ-loop
 loop-less c = search needs
 
@@ -63,6 +66,7 @@ all-lines-spec =
     go-on-requires
     returns
     add-at
+    wrapping-add-u64-requires
     loop-less
     loop-again
     returns-2)

@@ -1,17 +1,15 @@
 -- `tried::fill` is safe and ends.
 -- Assumes nothing.
-use mathlib.Core.Path.{_≡_}
 use Prim.Native.Nat.{_-_}
-use lib.ListN.{length}
 use borrow.Author.Needs.{needs}
 use Rattle.tried.proofs.fill.Statement.{statement}
 use Rattle.tried.proofs.fill.Tie as tie
 
 abbrev Inv-loop : tie.InvT-loop
-Inv-loop at run entries₀ end value₀ i₀ entries value i = length entries ≡ 600
+Inv-loop run end after₀ value₀ i₀ after value i = Unit {0}
 
 abbrev μ-loop : tie.MeasureT-loop
-μ-loop at run entries₀ end value₀ i₀ entries value i = 600 - i
+μ-loop run end after₀ value₀ i₀ after value i = 600 - i
 
 wrapping-add-u64-requires : tie.Need-wrapping-add-u64-requires Inv-loop μ-loop
 wrapping-add-u64-requires c κs = search needs
@@ -19,14 +17,14 @@ wrapping-add-u64-requires c κs = search needs
 loop-holds : tie.Need-loop-holds Inv-loop μ-loop
 loop-holds c = search needs
 
-cast-entries : tie.Need-cast-entries Inv-loop μ-loop
-cast-entries c = search needs
+cast-after : tie.Need-cast-after Inv-loop μ-loop
+cast-after c = search needs
 
-mul-entries : tie.Need-mul-entries Inv-loop μ-loop
-mul-entries c = search needs
+mul-after : tie.Need-mul-after Inv-loop μ-loop
+mul-after c = search needs
 
-slice-write-entries : tie.Need-slice-write-entries Inv-loop μ-loop
-slice-write-entries c = search needs
+element-write-after : tie.Need-element-write-after Inv-loop μ-loop
+element-write-after c = search needs
 
 wrapping-add-u64-requires-2 : tie.Need-wrapping-add-u64-requires-2 Inv-loop μ-loop
 wrapping-add-u64-requires-2 c κs = search needs
@@ -54,9 +52,9 @@ fill-spec =
     μ-loop
     wrapping-add-u64-requires
     loop-holds
-    cast-entries
-    mul-entries
-    slice-write-entries
+    cast-after
+    mul-after
+    element-write-after
     wrapping-add-u64-requires-2
     add-i
     loop-less

@@ -6,10 +6,10 @@ use Rattle.tried.proofs.jobs_of.Statement.{statement}
 use Rattle.tried.proofs.jobs_of.Tie as tie
 
 abbrev Inv-loop : tie.InvT-loop
-Inv-loop line at list₀ count₀ end₀ turns₀ list count end turns = turns ≤ 600
+Inv-loop line at found₀ turns₀ found turns = turns ≤ 600
 
 abbrev μ-loop : tie.MeasureT-loop
-μ-loop line at list₀ count₀ end₀ turns₀ list count end turns = 600 - turns
+μ-loop line at found₀ turns₀ found turns = 600 - turns
 
 loop-holds : tie.Need-loop-holds Inv-loop μ-loop
 loop-holds c = search needs

@@ -1,15 +1,15 @@
--- `tried::slot_of` is safe and ends.
+-- `tried::took_lowest` is safe and ends.
 -- Assumes nothing.
 use Prim.Native.Nat.{_≤_, _-_}
 use borrow.Author.Needs.{needs}
-use Rattle.tried.proofs.slot_of.Statement.{statement}
-use Rattle.tried.proofs.slot_of.Tie as tie
+use Rattle.tried.proofs.took_lowest.Statement.{statement}
+use Rattle.tried.proofs.took_lowest.Tie as tie
 
 abbrev Inv-loop : tie.InvT-loop
-Inv-loop job state free slot₀ slot = slot ≤ 32
+Inv-loop free job state now slot₀ slot = slot ≤ 32
 
 abbrev μ-loop : tie.MeasureT-loop
-μ-loop job state free slot₀ slot = 32 - slot
+μ-loop free job state now slot₀ slot = 32 - slot
 
 loop-holds : tie.Need-loop-holds Inv-loop μ-loop
 loop-holds c = search needs
@@ -17,17 +17,17 @@ loop-holds c = search needs
 shr-if1 : tie.Need-shr-if1 Inv-loop μ-loop
 shr-if1 c = search needs
 
-cast-if2 : tie.Need-cast-if2 Inv-loop μ-loop
-cast-if2 c = search needs
-
-mul-if2 : tie.Need-mul-if2 Inv-loop μ-loop
-mul-if2 c = search needs
-
-element-copy-out-if2 : tie.Need-element-copy-out-if2 Inv-loop μ-loop
-element-copy-out-if2 c = search needs
+shr-result : tie.Need-shr-result Inv-loop μ-loop
+shr-result c = search needs
 
 cast-result : tie.Need-cast-result Inv-loop μ-loop
 cast-result c = search needs
+
+mul-result : tie.Need-mul-result Inv-loop μ-loop
+mul-result c = search needs
+
+element-copy-out-result : tie.Need-element-copy-out-result Inv-loop μ-loop
+element-copy-out-result c = search needs
 
 returns : tie.Need-returns Inv-loop μ-loop
 returns c = search needs
@@ -44,18 +44,18 @@ loop-again c = search needs
 returns-2 : tie.Need-returns-2 Inv-loop μ-loop
 returns-2 c = search needs
 
-pub slot-of-spec : {M : Type 1} → statement M
-slot-of-spec =
+pub took-lowest-spec : {M : Type 1} → statement M
+took-lowest-spec =
     tie.close
     (tie.spec
     Inv-loop
     μ-loop
     loop-holds
     shr-if1
-    cast-if2
-    mul-if2
-    element-copy-out-if2
+    shr-result
     cast-result
+    mul-result
+    element-copy-out-result
     returns
     add-slot
     loop-less
