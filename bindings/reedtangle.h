@@ -169,6 +169,26 @@ uint64_t reedtangle_check_order(const uint8_t *log, size_t length, const uint32_
  */
 uint64_t reedtangle_list_order(const uint8_t *log, size_t length, uint32_t *out, size_t room);
 
+/* ---- ledger blocks: two functions more, in an archive of their own, target/staticlib/libledger.a (`rt staticlib ledger`)
+ *
+ * A log in blocks of 512 bytes: the block's number from 0 in four bytes, the count of its records in two, two zero bytes, 62 places of eight bytes,
+ * and two sums of four bytes each over the 126 words before them. All blocks but the last are full. What the records say is not looked at.
+ * What is said above of all functions holds of these: total, nothing kept, a refusal writes nothing. Both come back with code times 2^32 plus place.
+ */
+
+enum {
+    REEDTANGLE_BLOCKS_LENGTH = 21,  /* place 0: the length is no multiple of 512, or over 34,304 */
+    REEDTANGLE_BLOCK_SUMS = 22,     /* place: the first faulty block; a sum is wrong */
+    REEDTANGLE_BLOCK_FORM = 23,     /* place: the first faulty block; its number, its count, the zero bytes or an unused place is wrong */
+    REEDTANGLE_BLOCKS_LOG_BYTES = 34304 /* room for the blocks of any log */
+};
+
+/* The log in blocks, in `out`. 0: the place is the count of bytes, and bytes past them stay. 11: the length is no multiple of 8, or over 32,768. 24: no room. */
+uint64_t reedtangle_write_blocks(const uint8_t *log, size_t length, uint8_t *out, size_t room);
+
+/* The log in a run of blocks, in `out`. 0: as above; the run is then the one that reedtangle_write_blocks makes of that log. 21 to 24: refused. */
+uint64_t reedtangle_read_blocks(const uint8_t *blocks, size_t length, uint8_t *out, size_t room);
+
 /* ---- the state as one piece, and wrappers that take it */
 
 /*

@@ -1,11 +1,12 @@
 #!/bin/sh
 # Builds and runs the C program and the Rust tests over the two archives, and the two examples of README.md.
-# Wants cc and cargo, and `rt staticlib arbiter && rt staticlib orders` before. Last line: `N passed, 0 failed`. Leaves nothing behind.
+# Wants cc and cargo, and `rt staticlib` of arbiter, orders and ledger before. Last line: `N passed, 0 failed`. Leaves nothing behind.
 cd "$(dirname "$0")/.." || exit 1
 work=$(mktemp -d) || exit 1
 trap 'rm -rf "$work"' EXIT
 export CARGO_TARGET_DIR="$work/cargo"
 archives="target/staticlib/libarbiter.a target/staticlib/liborders.a"
+ledger=target/staticlib/libledger.a
 strict="-Wall -Wextra -Werror -pedantic"
 passed=0
 failed=0
@@ -42,7 +43,7 @@ example() {
   awk -v open="\`\`\`$1" '$0 == open { on = 1; next } $0 == "```" { on = 0 } on' README.md
 }
 
-for archive in $archives; do
+for archive in $archives $ledger; do
   try "$archive is there (rt staticlib writes it)" test -f "$archive"
 done
 if [ "$failed" != 0 ]; then
@@ -60,6 +61,12 @@ try "bindings/c/night.c is built" cc -std=c11 $strict -O1 -g -I bindings binding
 status=$?
 cat "$work/night.out"
 count "$work/night.out" $status
+
+try "bindings/c/ledger.c is built" cc -std=c11 $strict -O1 -g -I bindings bindings/c/ledger.c $ledger -o "$work/ledger"
+"$work/ledger" > "$work/ledger.out" 2>&1
+status=$?
+cat "$work/ledger.out"
+count "$work/ledger.out" $status
 
 echo "---- Rust"
 (cd bindings/rust && cargo test --offline --locked) > "$work/cargo.out" 2>&1
