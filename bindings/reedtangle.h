@@ -189,6 +189,21 @@ uint64_t reedtangle_write_blocks(const uint8_t *log, size_t length, uint8_t *out
 /* The log in a run of blocks, in `out`. 0: as above; the run is then the one that reedtangle_write_blocks makes of that log. 21 to 24: refused. */
 uint64_t reedtangle_read_blocks(const uint8_t *blocks, size_t length, uint8_t *out, size_t room);
 
+/* ---- batches: one function more, in an archive of its own, target/staticlib/libbatch.a (`rt staticlib batch`)
+ *
+ * Up to 64 reads and writes in one call, on a state that the host keeps, `length` bytes of requests. Comes back: code times 2^32 plus place.
+ *
+ *     0               all are granted; the place is their count, and the state is the one that they leave one by one
+ *     1, 2, 3, 7      the first that would be refused, with its place from 0; no bit of the state changes. 1 also for a kind other than 2 and 3
+ *     25              place 0: the length is no multiple of 8, or over 512; tested first
+ *
+ * What is said above of all functions holds of it. It takes less than 6,000 bytes of stack.
+ */
+
+enum { REEDTANGLE_BATCH_LENGTH = 25 };
+
+uint64_t reedtangle_batch(uint64_t *next, uint32_t *free, uint32_t *numbers, uint32_t *leads, uint64_t *sets, const uint8_t *requests, size_t length);
+
 /* ---- the state as one piece, and wrappers that take it */
 
 /*

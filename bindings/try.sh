@@ -1,12 +1,13 @@
 #!/bin/sh
 # Builds and runs the C program and the Rust tests over the two archives, and the two examples of README.md.
-# Wants cc and cargo, and `rt staticlib` of arbiter, orders and ledger before. Last line: `N passed, 0 failed`. Leaves nothing behind.
+# Wants cc and cargo, and `rt staticlib` of arbiter, orders, ledger and batch before. Last line: `N passed, 0 failed`. Leaves nothing behind.
 cd "$(dirname "$0")/.." || exit 1
 work=$(mktemp -d) || exit 1
 trap 'rm -rf "$work"' EXIT
 export CARGO_TARGET_DIR="$work/cargo"
 archives="target/staticlib/libarbiter.a target/staticlib/liborders.a"
 ledger=target/staticlib/libledger.a
+batch=target/staticlib/libbatch.a
 strict="-Wall -Wextra -Werror -pedantic"
 passed=0
 failed=0
@@ -43,7 +44,7 @@ example() {
   awk -v open="\`\`\`$1" '$0 == open { on = 1; next } $0 == "```" { on = 0 } on' README.md
 }
 
-for archive in $archives $ledger; do
+for archive in $archives $ledger $batch; do
   try "$archive is there (rt staticlib writes it)" test -f "$archive"
 done
 if [ "$failed" != 0 ]; then
@@ -67,6 +68,12 @@ try "bindings/c/ledger.c is built" cc -std=c11 $strict -O1 -g -I bindings bindin
 status=$?
 cat "$work/ledger.out"
 count "$work/ledger.out" $status
+
+try "bindings/c/batch.c is built" cc -std=c11 $strict -O1 -g -I bindings bindings/c/batch.c $batch $archives -o "$work/batch"
+"$work/batch" > "$work/batch.out" 2>&1
+status=$?
+cat "$work/batch.out"
+count "$work/batch.out" $status
 
 echo "---- Rust"
 (cd bindings/rust && cargo test --offline --locked) > "$work/cargo.out" 2>&1
