@@ -75,6 +75,12 @@ status=$?
 cat "$work/batch.out"
 count "$work/batch.out" $status
 
+try "bindings/c/small.c is built" cc -std=c11 $strict -O1 -g -I bindings bindings/c/small.c $archives -pthread -o "$work/small"
+"$work/small" > "$work/small.out" 2>&1
+status=$?
+cat "$work/small.out"
+count "$work/small.out" $status
+
 echo "---- Rust"
 (cd bindings/rust && cargo test --offline --locked) > "$work/cargo.out" 2>&1
 status=$?
