@@ -381,7 +381,13 @@ fn try_bytes(blocks: &mut Space, size: usize, from: usize, step: usize, counts: 
     while i < 512 {
         let place = plus(from, i);
         let x = at(blocks, place);
-        try_byte(blocks, size, place, std::num::wrapping_add_u64(x, 1), counts);
+        try_byte(
+            blocks,
+            size,
+            place,
+            std::num::wrapping_add_u64(x, 1),
+            counts,
+        );
         i += step % 512 + 1;
     }
 }

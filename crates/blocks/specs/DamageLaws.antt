@@ -97,7 +97,7 @@ module _ (p q : List ℕ) {w w′ : List ℕ} (W : Word w) (W′ : Word w′) (a
   in-sums l r r′ =
       let here = drop 504 p in
       let same : here ++ (w ++ q) ≡ here ++ (w′ ++ q)
-            = sym (drop-append-le 504 p (w ++ q) l) ∙ r ∙ ap sums (take-append-le 504 p (w ++ q) l ∙ sym (take-append-le 504 p (w′ ++ q) l)) ∙ sym r′ ∙ drop-append-le 504 p (w′ ++ q) l in
+      = sym (drop-append-le 504 p (w ++ q) l) ∙ r ∙ ap sums (take-append-le 504 p (w ++ q) l ∙ sym (take-append-le 504 p (w′ ++ q) l)) ∙ sym r′ ∙ drop-append-le 504 p (w′ ++ q) l in
       apart (sym (picked here w W) ∙ ap (λ (b : List ℕ). take 4 (drop (length here) b)) same ∙ picked here w′ W′)
     where
       picked : (here v : List ℕ) → Word v → take 4 (drop (length here) (here ++ (v ++ q))) ≡ v
@@ -163,8 +163,8 @@ word-changed a c lent lent′ {w} {w′} aligned W W′ apart z =
     below =
         lowest-none n run′ k
         (λ j l.
-          ap (fault-in n j) (part-left 512 (512 * j) a (w′ ++ c) (omega arith) ∙ sym (part-left 512 (512 * j) a (w ++ c) (omega arith)))
-          ∙ each-none n run n (s .2) j (let i = inside in omega arith))
+        ap (fault-in n j) (part-left 512 (512 * j) a (w′ ++ c) (omega arith) ∙ sym (part-left 512 (512 * j) a (w ++ c) (omega arith)))
+        ∙ each-none n run n (s .2) j (let i = inside in omega arith))
 
     this : fault-in n k (block-at k run′) ≡ some (fault 22 k)
     this =

@@ -161,7 +161,7 @@ module _ (bytes : List ℕ) (n : ℕ) (long : length bytes ≡ 512 * n) (few : n
       let c = count-most (sound m h .count-right) in
       ⊎-elim (λ q. part-left 496 (496 * k) (first-records m bytes) last (omega arith) ∙ runs m k (omega arith) q)
       (λ q. subst (λ (j : ℕ). run-of j (first-records m bytes ++ last) ≡ records-in (block-at j bytes)) (sym q)
-        (ap (take 496) (drop-at (first-records m bytes) last (496 * m) e) ∙ take-all 496 last (omega arith)))
+      (ap (take 496) (drop-at (first-records m bytes) last (496 * m) e) ∙ take-all 496 last (omega arith)))
       (below-or-last k m l)
 
   first-remade : (m : ℕ) → m ≤ n → first-blocks m (first-records n bytes) ≡ take (512 * m) bytes
@@ -239,10 +239,10 @@ pub write-right : (log lent : List ℕ) → Wrote log lent (write log lent)
 write-right log lent =
     ⊎-elim (λ o. subst (λ (a : Filled). Wrote log lent a) (sym (write-off log lent o)) (Wrote.bad-length o))
     (λ f. let l : Log log = record { whole = on-whole 8 32768 (length log) f; few = on-few 8 32768 (length log) f } in
-      ⊎-elim (λ q. subst (λ (a : Filled). Wrote log lent a) (sym (write-on log lent l ∙ fills-not (blocks-of log) lent q)) (Wrote.no-room l q))
-      (λ g. let h : length lent < length (blocks-of log) → ⊥ = g in let q : length (blocks-of log) ≤ length lent = omega arith in
-        subst (λ (a : Filled). Wrote log lent a) (sym (write-on log lent l ∙ fills (blocks-of log) lent q)) (written l q))
-      (answer (lt-test (length lent) (length (blocks-of log)))))
+    ⊎-elim (λ q. subst (λ (a : Filled). Wrote log lent a) (sym (write-on log lent l ∙ fills-not (blocks-of log) lent q)) (Wrote.no-room l q))
+    (λ g. let h : length lent < length (blocks-of log) → ⊥ = g in let q : length (blocks-of log) ≤ length lent = omega arith in
+    subst (λ (a : Filled). Wrote log lent a) (sym (write-on log lent l ∙ fills (blocks-of log) lent q)) (written l q))
+    (answer (lt-test (length lent) (length (blocks-of log)))))
     (answer (off-test 8 32768 (length log)))
 
 pub read-off : (run lent : List ℕ) → Off 512 34304 (length run) → read run lent ≡ refused 21 0 lent
@@ -278,7 +278,7 @@ read-right run lent =
         let same = sym (remade run n long few e) in
         ⊎-elim (λ p. subst (λ (a : Filled). Answered run lent a) (sym (fills-not (first-records n run) lent p)) (Answered.no-room (first-records n run) l same p))
         (λ g. let h : length lent < length (first-records n run) → ⊥ = g in let p : length (first-records n run) ≤ length lent = omega arith in
-          subst (λ (a : Filled). Answered run lent a) (sym (fills (first-records n run) lent p)) (reads (first-records n run) l same p))
+        subst (λ (a : Filled). Answered run lent a) (sym (fills (first-records n run) lent p)) (reads (first-records n run) l same p))
         (answer (lt-test (length lent) (length (first-records n run))))
 
 -- the blocks of a log are read as the log

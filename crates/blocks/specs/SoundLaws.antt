@@ -92,18 +92,18 @@ pub count-holds : (n k c : ℕ) → count-wrong n k c ≡ false → Count n k c
 count-holds n k c = by-test (λ b. cond b (not (eqb c 62)) (eqb c 0 || ltb (room k) c) ≡ false → Count n k c) (lt-test (suc k) n)
     (λ l e. record { before = λ m. denied (eq-test c 62) e; some-last = λ m. absurd (omega arith); most-last = λ m. absurd (omega arith) })
     (λ f e.
-      let q = or-false (eqb c 0) (ltb (room k) c) e in
-      let z : c ≡ 0 → ⊥ = eqb-false c 0 (q .0) in
-      record { before = λ l. absurd (f l); some-last = λ m. omega arith; most-last = λ m. ltb-false (room k) c (q .1) })
+    let q = or-false (eqb c 0) (ltb (room k) c) e in
+    let z : c ≡ 0 → ⊥ = eqb-false c 0 (q .0) in
+    record { before = λ l. absurd (f l); some-last = λ m. omega arith; most-last = λ m. ltb-false (room k) c (q .1) })
 
 pub count-shows : (n k c : ℕ) → Count n k c → count-wrong n k c ≡ false
 count-shows n k c q = by-test (λ b. cond b (not (eqb c 62)) (eqb c 0 || ltb (room k) c) ≡ false) (lt-test (suc k) n)
     (λ l. undenied (eq-test c 62) (q .before l))
     (λ f.
-      let g : suc k < n → ⊥ = f in
-      let l : n ≤ suc k = omega arith in
-      let some = q .some-last l in
-      false-or (ne-eqb c 0 (omega arith)) (le-ltb (room k) c (q .most-last l)))
+    let g : suc k < n → ⊥ = f in
+    let l : n ≤ suc k = omega arith in
+    let some = q .some-last l in
+    false-or (ne-eqb c 0 (omega arith)) (le-ltb (room k) c (q .most-last l)))
 
 pub count-most : {n k c : ℕ} → Count n k c → c ≤ 62
 count-most {n} {k} {c} q = by-test (λ b. c ≤ 62) (lt-test (suc k) n) (λ l. let e = q .before l in omega arith)

@@ -104,11 +104,11 @@ module _ (n k : ℕ) (b : List ℕ) (long : length b ≡ 512) where
         unused-found w =
             wrong-form n k b right
             (λ s.
-              let u = drop (8 + 8 * count-in b) (take 504 b) in
-              let t : every-of (eqb 0) u ≡ true = test-true (zeros-test u) (s .unused-right) in
-              let v : true ≡ not (every-of (eqb 0) u) = w ∙ ap (λ (j : ℕ). not (every-of (eqb 0) (drop (8 + 8 * j) (take 504 b)))) (zero-count zeros-fine) in
-              let z : true ≡ false = v ∙ ap not t in
-              let y : _≡_ {A = ℕ} 0 1 = cc in omega arith)
+            let u = drop (8 + 8 * count-in b) (take 504 b) in
+            let t : every-of (eqb 0) u ≡ true = test-true (zeros-test u) (s .unused-right) in
+            let v : true ≡ not (every-of (eqb 0) u) = w ∙ ap (λ (j : ℕ). not (every-of (eqb 0) (drop (8 + 8 * j) (take 504 b)))) (zero-count zeros-fine) in
+            let z : true ≡ false = v ∙ ap not t in
+            let y : _≡_ {A = ℕ} 0 1 = cc in omega arith)
 
         pub nothing-found : bytes-of 4 k ≡ take 4 (drop 0 b) → false ≡ not (every-of (eqb 0) (drop (8 + 8 * c) (take 504 b))) → none ≡ fault-in n k b
         nothing-found number w =

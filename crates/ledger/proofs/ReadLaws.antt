@@ -49,8 +49,8 @@ module _ (n : ℕ) (blocks : List ℕ) (u : Unfaulted n blocks) where
         let on : 512 * k + 8 ≡ k * 512 + 8 = omega arith in
         ap (λ (j : ℕ). take j (drop (k * 512 + 8) blocks)) e
         ∙ sym (ap (take (8 * c)) (drop-take 8 504 part enough)
-          ∙ take-take (8 * c) 504 (drop 8 part) (omega arith)
-          ∙ ap (take (8 * c)) (drop-drop 8 (512 * k) blocks ∙ ap (λ (j : ℕ). drop j blocks) on))
+        ∙ take-take (8 * c) 504 (drop 8 part) (omega arith)
+        ∙ ap (take (8 * c)) (drop-drop 8 (512 * k) blocks ∙ ap (λ (j : ℕ). drop j blocks) on))
 
     pub records-length : length (records-in (block-at k blocks)) ≡ 8 * count-in (block-at k blocks)
     records-length = record-size blocks n (u .whole) (u .few) (u .none-found) k inside

@@ -46,9 +46,9 @@ loop-again c =
     let l = w .before .before .loop in
     let s = w .before .before .before .before in
     let more =
-        sums-more (s .args .front .now) (l .at) (w .word-at .result) (omega arith) (w .word-at .ensures)
-        (l .first) (l .second) (c .before .wrapping-add-u32 .result) (c .wrapping-add-u322 .result) (s .pre) (l .inv .0) (omega arith) (l .inv .2) (l .inv .3)
-        (c .before .wrapping-add-u32 .ensures) (c .wrapping-add-u322 .ensures) in
+    sums-more (s .args .front .now) (l .at) (w .word-at .result) (omega arith) (w .word-at .ensures)
+    (l .first) (l .second) (c .before .wrapping-add-u32 .result) (c .wrapping-add-u322 .result) (s .pre) (l .inv .0) (omega arith) (l .inv .2) (l .inv .3)
+    (c .before .wrapping-add-u32 .ensures) (c .wrapping-add-u322 .ensures) in
     (omega arith, omega arith, more .0, more .1)
 
 returns : tie.Need-returns Inv-loop μ-loop

@@ -94,8 +94,8 @@ loop-again c =
       omega arith,
       y .kept .1 .0 ∙ l .inv .1,
       y .ensures
-      ∙ ap (with-run (l .out) (l .k * 496)) (run-there s (l .k) (omega arith))
-      ∙ records-turn (a .n) (a .blocks .now) (s .pre .0) (a .out .now) (l .out) (l .k) (omega arith) (s .pre .1) (l .inv .2),
+          ∙ ap (with-run (l .out) (l .k * 496)) (run-there s (l .k) (omega arith))
+          ∙ records-turn (a .n) (a .blocks .now) (s .pre .0) (a .out .now) (l .out) (l .k) (omega arith) (s .pre .1) (l .inv .2),
     )
 
 same-length : tie.Need-same-length Inv-loop μ-loop
