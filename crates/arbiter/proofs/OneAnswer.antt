@@ -9,10 +9,10 @@ use mathlib.Core.Bool.{cond}
 use mathlib.Core.List.{List}
 use lib.Dec.{eqb}
 use contract.Lifetimes.{Lfts}
-use borrow.Fn.Kind.{PK, RK}
-use borrow.Fn.Kinds.{Out, Dens, resT, endedOf}
+use borrow.Fn.Kinds.{Dens, resT, endedOf}
 use denote.Ref.{now}
 use denote.Triple.Clauses.{AtExit}
+use Rattle.cells.proofs.OneAnswer.{One}
 use Rattle.history.specs.Replies.{Reply}
 use Rattle.held.specs.Held.{Held}
 use Prim.Native.Nat.{ℕ}
@@ -49,10 +49,6 @@ use Rattle.arbiter.proofs.reedtangle_step.Reads as export-step-reads
 use Rattle.arbiter.proofs.reedtangle_fresh.Kinds as export-fresh-kinds
 use Rattle.arbiter.proofs.reedtangle_fresh.Reads as export-fresh-reads
 
--- two results at the same arguments are equal
-abbrev pub One : (ps : List (PK 0)) (r : RK 0) → Out 0 ps r → Type 0
-One ps r P = (κs : Lfts 0) (a : Dens κs ps) (x y : resT r κs .Denot) (s t : AtExit (endedOf 0 ps r) κs) → P κs a x s → P κs a y t → x ≡ y
-
 one-part : {R X : Type 0} (part : R → X) (whole : X → R) → ((r : R) → whole (part r) ≡ r) → {v : X} (r s : R) → part r ≡ v → part s ≡ v → r ≡ s
 one-part part whole back r s p q = sym (back r) ∙ ap whole (p ∙ sym q) ∙ back s
 
@@ -80,10 +76,10 @@ answer-back Circle = refl
 one-answer : {v : Reply} (a b : Answer) → numbered a ≡ v → numbered b ≡ v → a ≡ b
 one-answer = one-part numbered answer-of answer-back
 
-pub one-code : One code-kinds.ps code-kinds.r code-reads.Post
+pub one-code : One 0 code-kinds.ps code-kinds.r code-reads.Post
 one-code κs a x y s t p q = p ∙ sym q
 
-pub one-job : One job-kinds.ps job-kinds.r job-reads.Post
+pub one-job : One 0 job-kinds.ps job-kinds.r job-reads.Post
 one-job κs a x y s t p q = one-part (λ (r : JobNumber). r .0) (λ n. record { 0 = n }) (λ r. refl) x y p q
 
 -- ---- states
@@ -97,11 +93,11 @@ one-state =
     one-part (λ (r : State). lent (r .next) (r .free) (r .numbers) (r .leads) (r .sets))
     (λ h. record { next = h .next; free = h .free; numbers = h .numbers; leads = h .leads; sets = h .sets }) (λ r. refl)
 
-pub one-fresh : One fresh-kinds.ps fresh-kinds.r fresh-reads.Post
+pub one-fresh : One 0 fresh-kinds.ps fresh-kinds.r fresh-reads.Post
 one-fresh κs a x y s t p q = one-state x y p q
 
 -- the step by value: the answer and the state
-pub one-step : One step-kinds.ps step-kinds.r step-reads.Post
+pub one-step : One 0 step-kinds.ps step-kinds.r step-reads.Post
 one-step κs a x y s t p q =
     let answer = one-answer (x .answer) (y .answer) (p .0) (q .0) in
     let state = one-state (x .state) (y .state) (p .1) (q .1) in
@@ -120,10 +116,10 @@ one-step-in-place κs a x y s t p q =
 
 -- ---- runs of requests
 
-pub one-replayed-code : One replayed-code-kinds.ps replayed-code-kinds.r replayed-code-reads.Post
+pub one-replayed-code : One 0 replayed-code-kinds.ps replayed-code-kinds.r replayed-code-reads.Post
 one-replayed-code κs a x y s t p q = p ∙ sym q
 
-pub one-replayed-place : One replayed-place-kinds.ps replayed-place-kinds.r replayed-place-reads.Post
+pub one-replayed-place : One 0 replayed-place-kinds.ps replayed-place-kinds.r replayed-place-reads.Post
 one-replayed-place κs a x y s t p q = p ∙ sym q
 
 -- the answer of a run, from its code and place

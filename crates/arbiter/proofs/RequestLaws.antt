@@ -481,16 +481,6 @@ module _ {h : Held} {j c s : ℕ} {r : Moved} (f : Found h j s) where
 
 -- ---- a request of eight bytes
 
--- the wide bytes make the cell and the job
-pub cell-read : (b : List ℕ) {x y : ℕ} → x ≡ getD b 2 0 → y ≡ getD b 3 0 → x + y * 256 ≡ request-of b .cell
-unfolding request-of
-cell-read b p q = ap₂ (λ (x y : ℕ). x + y * 256) p q
-
-pub job-read : (b : List ℕ) {x y z u : ℕ} → x ≡ getD b 4 0 → y ≡ getD b 5 0 → z ≡ getD b 6 0 → u ≡ getD b 7 0
-    → x + y * 256 + z * 65536 + u * 16777216 ≡ request-of b .job
-unfolding request-of
-job-read b p q r s = λ i. p i + q i * 256 + r i * 65536 + s i * 16777216
-
 -- byte 1 is looked at before all tests
 code-byte : {x : Bool} (h : Held) (b : List ℕ) → eqb (getD b 1 0) 0 ≡ x
     → code-of (facts h) (request-of b) ≡ cond (not x) 1 (code-for h (want (getD b 0 0)) (request-of b .job) (request-of b .cell))

@@ -1,7 +1,6 @@
 -- What a run of requests answers, in bytes: the replies of the full history, from any first number, to the whole records of the requests. And a reply in
 -- one number, for hosts that ask step by step.
 -- Assumes nothing.
-use mathlib.Core.Path.{_≡_}
 use mathlib.Core.Bool.{cond}
 use mathlib.Core.List.{List, _++_}
 use Prim.Native.Nat.{ℕ, _+_, _*_, _/_}

@@ -496,6 +496,24 @@ fn wide(b: u8) -> u32
     b as u32
 }
 
+// The cell field of a request, and its job.
+fn cell_in(request: [u8; 8]) -> u32
+    ensures { λ r. ⌜ r ≡ request-of request .cell ⌝ }
+{
+    wide(request[2]) + wide(request[3]) * 256
+}
+
+fn job_in(request: [u8; 8]) -> JobNumber
+    ensures { λ r. ⌜ r .0 ≡ request-of request .job ⌝ }
+{
+    JobNumber(
+        wide(request[4])
+            + wide(request[5]) * 256
+            + wide(request[6]) * 65536
+            + wide(request[7]) * 16777216,
+    )
+}
+
 // One request in place: the arrays are lent, the rest goes in and comes back. A refusal leaves every array as it was.
 pub fn step_in_place(
     next: u64,
@@ -511,13 +529,8 @@ pub fn step_in_place(
         return refused(next, free, Answer::Malformed);
     }
     let kind = request[0];
-    let cell = wide(request[2]) + wide(request[3]) * 256;
-    let job = JobNumber(
-        wide(request[4])
-            + wide(request[5]) * 256
-            + wide(request[6]) * 65536
-            + wide(request[7]) * 16777216,
-    );
+    let cell = cell_in(request);
+    let job = job_in(request);
     match kind {
         1 => open_job(next, free, numbers, leads, sets),
         2 => step_job(next, free, numbers, leads, sets, false, job, cell),
@@ -708,22 +721,22 @@ pub extern "C" fn reedtangle_replay_by_value(
 ) -> u32
     ensures { λ r. ⌜ record { code = r; place = now (written .exit); bytes = now (answers .exit) } ≡ replayed first (now (requests .entry)) (now (answers .entry)) ⌝ }
 {
-    let count = requests.len() / 8;
-    if answers.len() / 8 < count {
+    let whole = requests.len() / 8;
+    if answers.len() / 8 < whole {
         *written = 0;
         return 24;
     }
     let mut state = State::fresh(JobNumber(first));
     let mut i: usize = 0;
-    while i < count {
+    while i < whole {
         let stepped = state.step(request_at(requests, i * 8));
         state = stepped.state;
-        let answer = stepped.answer;
-        put_number(answers, i * 8, answer.code());
-        put_number(answers, i * 8 + 4, answer.job().0);
+        let said = stepped.answer;
+        put_number(answers, i * 8, said.code());
+        put_number(answers, i * 8 + 4, said.job().0);
         i += 1;
     }
-    *written = (count * 8) as u64;
+    *written = (whole * 8) as u64;
     0
 }
 

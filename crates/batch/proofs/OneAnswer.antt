@@ -8,7 +8,7 @@ use contract.Lifetimes.{Lfts}
 use borrow.Fn.Kinds.{Dens, resT, endedOf}
 use denote.Ref.{now}
 use denote.Triple.Clauses.{AtExit}
-use Rattle.arbiter.proofs.OneAnswer.{One}
+use Rattle.cells.proofs.OneAnswer.{One}
 use Rattle.batch.specs.Batch.{Verdict}
 use Rattle.batch.specs.Leaves.{numbered}
 use Rattle.batch.specs.declared.Batched.{Batched}
@@ -22,10 +22,10 @@ use Rattle.batch.proofs.batch_in_place.Reads as in-place-reads
 use Rattle.batch.proofs.reedtangle_batch.Kinds as export-kinds
 use Rattle.batch.proofs.reedtangle_batch.Reads as export-reads
 
-pub one-code : One code-kinds.ps code-kinds.r code-reads.Post
+pub one-code : One 0 code-kinds.ps code-kinds.r code-reads.Post
 one-code κs a x y s t p q = p ∙ sym q
 
-pub one-place : One place-kinds.ps place-kinds.r place-reads.Post
+pub one-place : One 0 place-kinds.ps place-kinds.r place-reads.Post
 one-place κs a x y s t p q = p ∙ sym q
 
 -- the answer of a verdict

@@ -7,10 +7,12 @@
 -- Assumes nothing.
 use mathlib.Core.Path.{_≡_, refl}
 use mathlib.Core.Logic.{⊎-elim}
-use mathlib.Core.Bool.{not}
+use mathlib.Core.Bool.{not, cond}
 use mathlib.Core.Option.{Option, none, some}
 use mathlib.Core.List.{List, [], _∷_, _++_, map, List·Memᴰ·append-cases}
-use Prim.Native.Nat.{ℕ, _+_, _-_, _*_}
+use Prim.Native.Nat.{ℕ, _+_, _-_, _*_, _/_, _%_, _^_}
+use lib.Bits.{bitOr}
+use lib.Dec.{eqb}
 use lib.ListN.{length, replicate, take}
 use Rattle.graph.specs.Lists.{_∈_}
 use Rattle.marks.specs.Marks.{bit, mask-of, without, tab}
@@ -172,9 +174,13 @@ pub record State : Type 0 where
   pub slots : List ℕ
   pub rows : List Row
 
--- four words for the cells of a set
+-- four words for the cells of a set: each cell's mark stands in its word
+abbrev pub marks-in : ℕ → List ℕ → ℕ
+marks-in w [] = 0
+marks-in w (c ∷ cs) = cond (eqb (c / word-marks) w) (bitOr (2 ^ (c % word-marks)) (marks-in w cs)) (marks-in w cs)
+
 abbrev pub set-of : List ℕ → List ℕ
-set-of cs = tab set-words (λ w. mask-of word-marks (λ k. has cs (w * word-marks + k)))
+set-of cs = tab set-words (λ w. marks-in w cs)
 
 -- the words of rows, each own before past and reads before writes
 abbrev pub words-of : List Row → List ℕ

@@ -3,7 +3,7 @@
 -- Assumes nothing.
 use mathlib.Core.Path.{_≡_, refl, sym, ap, ap₂, _∙_, subst}
 use mathlib.Core.Logic.{_⊎_, ⊎-elim}
-use mathlib.Core.Bool.{Bool, true, false, not, _&&_}
+use mathlib.Core.Bool.{Bool, not, _&&_, and-comm}
 use mathlib.Core.List.{List, [], _∷_, _++_, append-nil, append-assoc, List·Memᴰ·head, List·Memᴰ·not-nil, List·Memᴰ·append-cases, Memᴰ·append-left, Memᴰ·append-right, List·Memᴰ·eq-of-singleton, Memᴰ·cast}
 use Prim.Native.Nat.{ℕ, zero, suc, _+_, _<_}
 use native.Mathlib.Omega.{arith}
@@ -126,13 +126,7 @@ only-leave-out : {X : Type 0} (f : X → ℕ) (a : List ℕ) (j : ℕ) (l : List
 only-leave-out f a j l = only-same _ _ l (λ x m. leave-out a j (f x)) ∙ sym (only-only (λ x. not (eqb (f x) j)) (λ x. not (has a (f x))) l)
 
 only-swap : {X : Type 0} (p q : X → Bool) (l : List X) → only p (only q l) ≡ only q (only p l)
-only-swap p q l = only-only p q l ∙ only-same _ _ l (λ x m. swap (q x) (p x)) ∙ sym (only-only q p l)
-  where
-    swap : (a b : Bool) → a && b ≡ b && a
-    swap true true = refl
-    swap true false = refl
-    swap false true = refl
-    swap false false = refl
+only-swap p q l = only-only p q l ∙ only-same _ _ l (λ x m. and-comm (q x) (p x)) ∙ sym (only-only q p l)
 
 -- the kept steps from all of them and the abandoned jobs
 keep-of : List ℕ → List Step → List Step

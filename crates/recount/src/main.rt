@@ -1,191 +1,135 @@
-// The second witness: the arbiter's replies and the checker's verdicts, told again from the whole history.
+// The second witness: the arbiter's replies, the checker's verdicts and the lister's orders, told again from the whole history.
 //
-// A window starts from a fresh state. All that is granted in it is kept, as the records of its log, and each request is decided from these by the definitions,
-// in plain loops over every record and every pair of records; the arbiter is asked the same, and the replies are compared. No code is shared with the arbiter
-// and the checker, but the eight bytes of a request. What is proved here is that the program is safe and ends, and nothing of its replies: they
-// are a second reading of the same rules.
+// All that is granted is kept, as the records of a log, and each request is decided from these by the definitions, in plain loops over every record and every pair
+// of records; the arbiter, the checker and the lister are asked the same, and the answers are compared. No code is shared with them, but the eight bytes of a
+// request and of a reply. What is proved here is that the program is safe and ends, and nothing of its answers: they are a second reading of the same rules.
 //
-// The requests come from a generator, in six shapes of streams, and from the tried histories on standard input. Each window's log is judged under right and
-// wrong orders, whole and damaged. A line for each shape has the requests, how many got each code, in how many of code 7 every circle passes a job that has
-// ended, and how many replies differed.
+// What is asked comes from standard input, which is `crates/tried/stdin` once more (a copy, byte for byte: a program has an input of its own), and from a generator,
+// in six shapes of streams. A stream is cut into windows; the log of each is given to the checker and the lister, whole and damaged, with right and wrong orders.
 //
-// A record is one number, its eight bytes with the low byte first. A history is a list of records, of which the first n count.
-use arbiter::Answer;
+// A record is one number, its eight bytes with the low byte first: the kind, byte 1, the cell, the job. So is an answer: its code for the kind, and the job or
+// the place where the job stands.
 use arbiter::JobNumber;
-use arbiter::State;
-use arbiter::Stepped;
-use orders::Checked;
 
 // ---- lists of numbers, all of one length: past the end 0 is read, and nothing is written
 
-type List = [u64; 520];
+type List = [u64; 4608];
 
 fn at(list: &List, i: usize) -> u64 {
-    if i < 520 {
+    if i < 4608 {
         return list[i];
     }
     0
 }
 
 fn put(list: &mut List, i: usize, x: u64) {
-    if i < 520 {
+    if i < 4608 {
         list[i] = x;
     }
 }
 
-fn one_more(i: usize) -> usize {
-    std::num::wrapping_add_usize(i, 1)
+// So much more at a place.
+fn bump(list: &mut List, i: usize, x: u64) {
+    let y = std::num::wrapping_add_u64(at(list, i), x);
+    put(list, i, y);
 }
 
-const ALL: u64 = 0xffff_ffff_ffff_ffff;
+// A list has its bytes at LENGTH, eight for each of its numbers, which stand from place 0 on. That of a history, whose numbers are records, has the requests that
+// it came from at ASKS and on, how many there were, and the first number; and the counts stand at its end.
+const ASKS: usize = 2048;
 
-// The first place, from one to before another, of a number that is the value under the mask; that other place where there is none.
-fn seek(list: &List, from: usize, to: usize, mask: u64, value: u64) -> usize {
-    let mut i = from;
-    while i < to {
-        if at(list, i) & mask == value {
-            return i;
-        }
-        i += 1;
-    }
-    to
+const LENGTH: usize = 4200;
+
+const ASKED: usize = 4201;
+
+const FIRST: usize = 4202;
+
+// How many numbers?
+fn size(list: &List) -> usize {
+    (at(list, LENGTH) / 8) as usize
 }
 
-// ---- a record
-
-fn kind_of(record: u64) -> u64 {
-    record % 256
-}
-
-fn cell_of(record: u64) -> u64 {
-    record / 65536 % 65536
-}
-
-fn job_of(record: u64) -> u64 {
-    record / 4294967296
-}
-
-fn record(kind: u64, byte1: u64, cell: u64, job: u64) -> u64 {
-    kind % 256 + (byte1 % 256) * 256 + (cell % 65536) * 65536 + (job % 4294967296) * 4294967296
-}
-
-// Kind not 1 to 5, or byte 1 not zero.
-fn malformed(record: u64) -> bool {
-    let kind = kind_of(record);
-    (kind == 0) | (5 < kind) | (record / 256 % 256 != 0)
-}
-
-fn is_step(record: u64) -> bool {
-    let kind = kind_of(record);
-    (kind == 2) | (kind == 3)
-}
-
-// Steps of different jobs on one cell, at least one a write.
-fn conflict(a: u64, b: u64) -> bool {
-    let apart = job_of(a) != job_of(b);
-    let meet = cell_of(a) == cell_of(b);
-    let write = (a % 256 == 3) | (b % 256 == 3);
-    apart & meet & write & is_step(a) & is_step(b)
-}
-
-fn byte_of(record: u64, place: u64) -> u8 {
-    ((record >> (place % 8 * 8)) % 256) as u8
-}
-
-fn bytes(record: u64) -> [u8; 8] {
-    [
-        byte_of(record, 0),
-        byte_of(record, 1),
-        byte_of(record, 2),
-        byte_of(record, 3),
-        byte_of(record, 4),
-        byte_of(record, 5),
-        byte_of(record, 6),
-        byte_of(record, 7),
-    ]
+// One number more.
+fn add(list: &mut List, x: u64) {
+    let n = size(list);
+    put(list, n, x);
+    bump(list, LENGTH, 8);
 }
 
 // ---- the whole history
 
-// Is there a record of this kind and job?
-fn has(h: &List, n: usize, kind: u64, job: u64) -> bool {
-    seek(h, 0, n, 0xffff_ffff_0000_00ff, record(kind, 0, 0, job)) < n
+// What a record says of a job is a mark at the place of its kind; an open of a higher number is the mark HIGHER.
+const HIGHER: u64 = 256;
+
+fn mark_of(record: u64, job: u64) -> u64 {
+    let other = record >> 32;
+    let higher = (job < other) & (record % 256 == 1);
+    ((other == job) as u64) << (record % 8) | (higher as u64) << 8
 }
 
-fn is_open(h: &List, n: usize, job: u64) -> bool {
-    has(h, n, 1, job) && !has(h, n, 4, job) && !has(h, n, 5, job)
-}
-
-fn is_kept(h: &List, n: usize, job: u64) -> bool {
-    has(h, n, 1, job) && !has(h, n, 5, job)
-}
-
-// Which jobs are counted: those opened, those open, those kept.
-const OPENED: u64 = 0;
-
-const OPEN: u64 = 1;
-
-const KEPT: u64 = 2;
-
-// Is the record the open of such a job?
-fn is_such(h: &List, n: usize, r: u64, which: u64) -> bool {
-    if kind_of(r) != 1 {
-        return false;
+// What the first n records say of a job.
+fn marks_of(h: &List, n: usize, job: u64) -> u64 {
+    let mut marks: u64 = 0;
+    let mut i: usize = 0;
+    while i < n {
+        marks |= mark_of(at(h, i), job);
+        i += 1;
     }
-    match which {
-        OPENED => true,
-        OPEN => is_open(h, n, job_of(r)),
-        _ => is_kept(h, n, job_of(r)),
-    }
+    marks
 }
 
-fn count(h: &List, n: usize, which: u64) -> u64 {
+const OPENED: u64 = 0b10;
+
+const WRITTEN: u64 = 0b1000;
+
+const ENDED: u64 = 0b10000;
+
+const ABANDONED: u64 = 0b100000;
+
+// A job was opened where its marks under OPENED are OPENED, is open where those under OPEN are, and is kept where those under KEPT are.
+const OPEN: u64 = 0b110010;
+
+const KEPT: u64 = 0b100010;
+
+// Is the record at place i the open of such a job?
+fn is_such(h: &List, n: usize, i: usize, such: u64) -> bool {
+    let record = at(h, i);
+    record % 256 == 1 && marks_of(h, n, record >> 32) & such == OPENED
+}
+
+// How many such jobs are there?
+fn count(h: &List, n: usize, such: u64) -> u64 {
     let mut sum: u64 = 0;
     let mut i: usize = 0;
     while i < n {
-        if is_such(h, n, at(h, i), which) {
-            sum = std::num::wrapping_add_u64(sum, 1);
-        }
+        sum = std::num::wrapping_add_u64(sum, is_such(h, n, i, such) as u64);
         i += 1;
     }
     sum
 }
 
-// ---- the circle. Each place has a mark: 0 at first.
+// ---- pairs. A record may be marked in byte 1, which is 0 in what is kept, and 0 stands for one that is taken out.
 
-// The records of the job get the mark.
-fn mark(h: &List, n: usize, marks: &mut List, job: u64, x: u64) {
-    let mut i: usize = 0;
-    while i < n {
-        if job_of(at(h, i)) == job {
-            put(marks, i, x);
-        }
-        i += 1;
-    }
+const MARK: u64 = 256;
+
+const ALL: u64 = 0xffff_ffff_ffff_ffff;
+
+// Do two records conflict: steps of different jobs on one cell, at least one a write? Of the kinds 0 to 5, the steps are 2 and 3. The earlier one is to have the
+// mark, if one is given.
+fn conflict(a: u64, b: u64, mark: u64) -> bool {
+    let other = a ^ b;
+    let steps = a & b & 2 != 0;
+    let write = (a | b) & 1 != 0;
+    let meet = other & 0xffff_0000 == 0;
+    let apart = 4294967296 <= other;
+    steps & write & meet & apart & (a & mark == mark)
 }
 
-// The records of jobs that were abandoned, or that have ended, get the mark 9: such a job has a record of the kind.
-fn mark_left(h: &List, n: usize, marks: &mut List, kind: u64) {
-    let mut i: usize = 0;
-    while i < n {
-        if kind_of(at(h, i)) == kind {
-            mark(h, n, marks, job_of(at(h, i)), 9);
-        }
-        i += 1;
-    }
-}
-
-// Are the records in conflict, and is the mark within the bounds?
-fn clash(a: u64, b: u64, x: u64, low: u64, high: u64) -> bool {
-    low <= x && x < high && conflict(a, b)
-}
-
-// Is a step before place b, with a mark within the bounds, in conflict with the one there?
-fn meets(h: &List, marks: &List, b: usize, low: u64, high: u64) -> bool {
-    let later = at(h, b);
+// Is one of the first n records in conflict with a later one?
+fn meets(w: &List, n: usize, later: u64, mark: u64) -> bool {
     let mut a: usize = 0;
-    while a < b {
-        if clash(at(h, a), later, at(marks, a), low, high) {
+    while a < n {
+        if conflict(at(w, a), later, mark) {
             return true;
         }
         a += 1;
@@ -193,525 +137,310 @@ fn meets(h: &List, marks: &List, b: usize, low: u64, high: u64) -> bool {
     false
 }
 
-// The jobs that the step at place a leads to get the mark 1, where they had none.
-fn follow_step(h: &List, n: usize, marks: &mut List, a: usize) {
-    let step = at(h, a);
-    let mut b = a;
+// The records of a job are taken out, with 0, or marked, with ALL.
+fn change(w: &mut List, n: usize, job: u64, mask: u64) {
+    let mut i: usize = 0;
+    while i < n {
+        let record = at(w, i);
+        if record >> 32 == job {
+            put(w, i, (record | MARK) & mask);
+        }
+        i += 1;
+    }
+}
+
+// The records without those of jobs that have one of the marks.
+fn without(h: &List, n: usize, marks: u64) -> List {
+    let mut w = *h;
+    let mut i: usize = 0;
+    while i < n {
+        if marks_of(h, n, at(h, i) >> 32) & marks != 0 {
+            put(&mut w, i, 0);
+        }
+        i += 1;
+    }
+    w
+}
+
+// ---- the circle
+
+// The first place of n with a record without the mark that a marked one leads to, and n where there is none.
+fn first_led(w: &List, n: usize) -> usize {
+    let mut b: usize = 0;
     while b < n {
-        if clash(step, at(h, b), at(marks, b), 0, 1) {
-            mark(h, n, marks, job_of(at(h, b)), 1);
+        let record = at(w, b);
+        if record & MARK == 0 && meets(w, b, record, MARK) {
+            return b;
         }
         b += 1;
     }
+    n
 }
 
-// A record with mark 1 is followed, and gets the mark 2, until there is none: the jobs reached have the mark 2.
-fn follow(h: &List, n: usize, marks: &mut List) {
+// Would the step close a circle? Its job is marked, and so are those that a marked step leads to, until there is none more; all that is new leads to this step: does a
+// marked one lead to it? Jobs with one of the marks given are left out.
+fn closes(h: &List, step: u64, marks: u64) -> bool {
+    let n = size(h);
+    let mut w = without(h, n, marks);
+    let mut job = step >> 32;
     let mut turn: usize = 0;
-    while turn < 520 {
-        let a = seek(marks, 0, n, ALL, 1);
-        if a == n {
-            return;
+    while turn < 4608 {
+        change(&mut w, n, job, ALL);
+        let b = first_led(&w, n);
+        if b == n {
+            break;
         }
-        put(marks, a, 2);
-        follow_step(h, n, marks, a);
+        job = at(&w, b) >> 32;
         turn += 1;
     }
+    meets(&w, n, step, MARK)
 }
 
-// Does the step at the last place close a circle? All that is new leads to this step: is a job reached from its job that leads to it? Jobs with a record of
-// the kind given are left out, beside those that were abandoned.
-fn closes(h: &List, last: usize, job: u64, kind: u64) -> bool {
-    let n = one_more(last);
-    let mut marks = [0u64; 520];
-    mark_left(h, n, &mut marks, 5);
-    mark_left(h, n, &mut marks, kind);
-    mark(h, n, &mut marks, job, 1);
-    follow(h, n, &mut marks);
-    meets(h, &marks, last, 2, 3)
+// ---- the replies by the definitions. A reply of 7 is marked where every circle passes a job that has ended.
+
+// Kind not 1 to 5, or byte 1 not zero.
+fn is_malformed(record: u64) -> bool {
+    let kind = record % 256;
+    (kind == 0) | (5 < kind) | (record / 256 % 256 != 0)
 }
 
-// ---- the replies by the definitions. A reply is laid out like a record: the code for the kind, and the job. Byte 1 is 1 where every circle passes a job that
-// has ended.
-
-fn grant(job: u64) -> u64 {
-    record(0, 0, 0, job)
-}
-
-// The step is put at the end of the history.
-fn decide_step(h: &mut List, n: usize, asked: u64, job: u64) -> u64 {
-    if 255 < cell_of(asked) {
-        return 2;
-    }
-    if !is_open(h, n, job) {
-        return 3;
-    }
-    put(h, n, asked);
-    if !closes(h, n, job, 5) {
-        return grant(job);
-    }
-    if closes(h, n, job, 4) {
-        return 7;
-    }
-    7 + 256
-}
-
-fn decide_open(first: u64, h: &List, n: usize) -> u64 {
-    let number = std::num::wrapping_add_u64(first, count(h, n, OPENED));
+fn decide_open(h: &List, n: usize) -> u64 {
+    let number = std::num::wrapping_add_u64(at(h, FIRST), count(h, n, OPENED));
     if 4294967295 < number {
         return 6;
     }
     if 32 <= count(h, n, OPEN) {
         return 5;
     }
-    grant(number)
+    number << 32
 }
 
-fn decide_leave(h: &List, n: usize, job: u64, abandon: bool) -> u64 {
-    if !is_open(h, n, job) {
+// Why a job with these marks may not ask so; 0 where it may, but for circles.
+fn refusal(asked: u64, marks: u64) -> u64 {
+    let kind = asked % 256;
+    if kind < 4 && 255 < asked / 65536 % 65536 {
+        return 2;
+    }
+    if marks & OPEN != OPENED {
         return 3;
     }
-    if abandon && has(h, n, 3, job) {
+    if kind == 5 && marks & WRITTEN != 0 {
         return 4;
-    }
-    grant(job)
-}
-
-// The reply to a request after n records.
-fn decide(first: u64, h: &mut List, n: usize, asked: u64) -> u64 {
-    if malformed(asked) {
-        return 1;
-    }
-    let job = job_of(asked);
-    let kind = kind_of(asked);
-    match kind {
-        1 => decide_open(first, h, n),
-        4 => decide_leave(h, n, job, false),
-        5 => decide_leave(h, n, job, true),
-        _ => decide_step(h, n, asked, job),
-    }
-}
-
-// What was granted is kept, as a log has it: with the number issued, and cell 0 where no step is.
-fn keep(h: &mut List, n: usize, asked: u64, reply: u64) -> usize {
-    if kind_of(reply) != 0 {
-        return n;
-    }
-    if is_step(asked) {
-        put(h, n, asked);
-        return one_more(n);
-    }
-    put(h, n, record(kind_of(asked), 0, 0, job_of(reply)));
-    one_more(n)
-}
-
-// ---- one request, to both. Counts stand at the place of their code, those of the codes from 11 on at 1 to 8; these stand beside them.
-
-const ENDED: usize = 8;
-
-const ASKED: usize = 9;
-
-const DIFFER: usize = 10;
-
-const HISTORIES: usize = 11;
-
-fn bump_if(counts: &mut List, i: usize, so: bool) {
-    if so {
-        let x = at(counts, i);
-        put(counts, i, std::num::wrapping_add_u64(x, 1));
-    }
-}
-
-// One more request or verdict.
-fn tally(counts: &mut List, place: u64, same: bool) {
-    bump_if(counts, ASKED, true);
-    bump_if(counts, place as usize, true);
-    bump_if(counts, DIFFER, !same);
-}
-
-fn same_reply(reply: u64, answer: Answer) -> bool {
-    let code = answer.code() as u64;
-    let job = answer.job().0 as u64;
-    (kind_of(reply) == code) & (job_of(reply) == job)
-}
-
-// What the arbiter makes of a request: it is lent the arrays of the state.
-fn served(state: State, asked: u64) -> Stepped {
-    let mut numbers = state.numbers;
-    let mut leads = state.leads;
-    let mut sets = state.sets;
-    let moved = arbiter::step_in_place(
-        state.next,
-        state.free,
-        &mut numbers,
-        &mut leads,
-        &mut sets,
-        bytes(asked),
-    );
-    let answer = moved.answer;
-    Stepped {
-        state: State {
-            next: moved.next,
-            free: moved.free,
-            numbers: numbers,
-            leads: leads,
-            sets: sets,
-        },
-        answer: answer,
-    }
-}
-
-// Where a window stands: its first number, how many records are kept, the last reply, and the arbiter's state.
-struct Stand {
-    first: u64,
-    n: usize,
-    reply: u64,
-    state: State,
-}
-
-fn fresh(first: u64) -> Stand {
-    Stand {
-        first: first,
-        n: 0,
-        reply: 0,
-        state: State::fresh(JobNumber((first % 4294967296) as u32)),
-    }
-}
-
-fn ask(before: Stand, h: &mut List, asked: u64, counts: &mut List) -> Stand {
-    let state = before.state;
-    let stepped = served(state, asked);
-    let mine = decide(before.first, h, before.n, asked);
-    let answer = stepped.answer;
-    let after = stepped.state;
-    tally(counts, kind_of(mine), same_reply(mine, answer));
-    bump_if(counts, ENDED, mine / 256 % 256 == 1);
-    Stand {
-        first: before.first,
-        n: keep(h, before.n, asked, mine),
-        reply: mine,
-        state: after,
-    }
-}
-
-// ---- requests from a seed
-
-// The next number of the generator.
-fn shifted(x: u64) -> u64 {
-    let y = x ^ (x << 13);
-    let z = y ^ (y >> 7);
-    z ^ (z << 17)
-}
-
-// One of n numbers, from the low one on. Twelve picks are made of one number of the generator: ten bits each, of it and of the next.
-fn pick(r: u64, place: u64, low: u64, n: u64) -> u64 {
-    if n == 0 {
-        return low;
-    }
-    let mut word = r;
-    if 6 <= place {
-        word = shifted(r);
-    }
-    std::num::wrapping_add_u64(low, (word >> (place % 6 * 10)) % 1024 % n)
-}
-
-// One in so many times.
-fn one_in(r: u64, place: u64, n: u64) -> bool {
-    pick(r, place, 0, n) == 0
-}
-
-// The shape of a stream is one number too. Its bytes: the cells in use, the most jobs open at once; one in how many requests is an open, one in how many steps
-// a write, one in how many requests a bad one, one in how many jobs that leave is abandoned; whether the first job stays open, and whether the numbers run out.
-const CELLS: u64 = 0;
-
-const MOST: u64 = 1;
-
-const OPENS: u64 = 2;
-
-const WRITES: u64 = 3;
-
-const BAD: u64 = 4;
-
-const ABANDONS: u64 = 5;
-
-const STAYS: u64 = 6;
-
-const LAST: u64 = 7;
-
-fn of(shape: u64, which: u64) -> u64 {
-    byte_of(shape, which) as u64
-}
-
-// Requests that are mostly refused, with a job that may be open.
-fn bad_request(r: u64, job: u64) -> u64 {
-    let any = shifted(shifted(shifted(r)));
-    let kind = pick(r, 7, 2, 4);
-    let cell = pick(r, 8, 0, 300);
-    let way = pick(r, 6, 0, 5);
-    match way {
-        // any kind
-        0 => record(any, 0, cell, job),
-        // byte 1 not zero
-        1 => record(kind, pick(r, 9, 1, 255), cell, job),
-        // a cell above 255, of this job or of the next
-        2 => record(
-            pick(r, 7, 2, 2),
-            0,
-            pick(r, 9, 256, 1024),
-            pick(r, 10, job, 2),
-        ),
-        // a job that was perhaps never issued, and one issued before
-        3 => record(kind, 0, cell % 256, any),
-        _ => record(kind, 0, cell % 256, std::num::wrapping_sub_u64(job, kind)),
-    }
-}
-
-// Where the last record before a place is whose job is open; the place itself where there is none.
-fn last_open(h: &List, n: usize, place: usize) -> usize {
-    let mut i = place;
-    while 0 < i {
-        i -= 1;
-        if is_open(h, n, job_of(at(h, i))) {
-            return i;
-        }
-    }
-    place
-}
-
-// An open job, from any place of the history.
-fn job_for(shape: u64, r: u64, h: &List, n: usize) -> u64 {
-    if of(shape, STAYS) == 1 && one_in(r, 1, 4) {
-        return job_of(at(h, 0));
-    }
-    let place = pick(r, 2, 1, n as u64) as usize;
-    let i = last_open(h, n, place);
-    if i != place {
-        return job_of(at(h, i));
-    }
-    job_of(at(h, last_open(h, n, n)))
-}
-
-// A field that the request ignores: now and then not zero.
-fn ignored(r: u64, place: u64) -> u64 {
-    if one_in(r, place, 8) {
-        return shifted(r);
     }
     0
 }
 
-// An end or an abandon of the job.
-fn leave(shape: u64, r: u64, job: u64) -> u64 {
-    if one_in(r, 7, of(shape, ABANDONS)) {
-        return record(5, 0, ignored(r, 8), job);
+// What may be asked, but for circles, is granted but for circles: only a step can close one.
+fn decide_job(h: &List, asked: u64) -> u64 {
+    if !closes(h, asked, ABANDONED) {
+        return asked >> 32 << 32;
     }
-    record(4, 0, ignored(r, 8), job)
+    if closes(h, asked, ABANDONED | ENDED) {
+        return 7;
+    }
+    7 | MARK
 }
 
-fn step(shape: u64, r: u64, job: u64) -> u64 {
-    let cell = pick(r, 8, 0, of(shape, CELLS));
-    if one_in(r, 7, of(shape, WRITES)) {
-        return record(3, 0, cell, job);
+// The reply to a request.
+fn decide(h: &List, asked: u64) -> u64 {
+    if is_malformed(asked) {
+        return 1;
     }
-    record(2, 0, cell, job)
+    if asked % 256 == 1 {
+        return decide_open(h, size(h));
+    }
+    let code = refusal(asked, marks_of(h, size(h), asked >> 32));
+    if code != 0 {
+        return code;
+    }
+    decide_job(h, asked)
 }
 
-fn wants_open(shape: u64, r: u64, open: u64) -> bool {
-    open == 0 || (open < of(shape, MOST) && one_in(r, 3, of(shape, OPENS)))
+// ---- counts. A row has 16 places: how many answers differed, how many there were, how many had each code, of which those from 11 on stand for 1 to 8, in the place
+// of an 8 how many replies were marked, and how many histories or logs there were.
+
+// The rows, by their first place, as the report has them line by line. A row of each shape comes first, and then what they sum to; the last is what the others sum to.
+const COUNTS: usize = 4352;
+
+const SHAPES: u64 = 4368;
+
+const STREAMS: u64 = 4464;
+
+const HISTORIES: u64 = 4480;
+
+const ORDERS: u64 = 4496;
+
+const LISTS: u64 = 4512;
+
+const STREAM_ORDERS: u64 = 4528;
+
+const STREAM_LISTS: u64 = 4544;
+
+const REST: u64 = 4560;
+
+// What is to be counted is one number. Its bits: from 0 the code, 8 is MARK, 9 that two answers differ, 10 that it is an answer, 11 that a history or a log begins,
+// from 16 on the row.
+const BEGIN: u64 = 2048;
+
+// Two answers, and what is wanted, if that is not ALL.
+fn compared(row: u64, mine: u64, theirs: u64, want: u64) -> u64 {
+    let answer = mine & !MARK;
+    let differ = (answer != theirs) | ((want != ALL) & (answer != want));
+    row << 16 | mine % 512 | (differ as u64) << 9 | 1024
 }
 
-// Does the job leave? More often where as many as there may be are open.
-fn wants_leave(shape: u64, r: u64, open: u64, is_first: bool) -> bool {
-    if of(shape, STAYS) == 1 && is_first {
-        return false;
-    }
-    if open < of(shape, MOST) {
-        return one_in(r, 4, 12);
-    }
-    one_in(r, 4, 6)
+fn tally_in(h: &mut List, row: usize, what: u64) {
+    let answer = what >> 10 & 1;
+    let code = (what % 256 % 10) as usize;
+    bump(h, row, what >> 9 & 1);
+    bump(h, row | 1, answer);
+    bump(h, row | 2 + code, answer);
+    bump(h, row | 10, what >> 8 & 1);
+    bump(h, row | 11, what >> 11 & 1);
 }
 
-fn request(shape: u64, r: u64, h: &List, n: usize) -> u64 {
-    let open = count(h, n, OPEN);
-    if wants_open(shape, r, open) {
-        return record(1, 0, ignored(r, 4), ignored(r, 5));
+fn sum_of(row: u64) -> u64 {
+    if row < STREAMS {
+        return STREAMS;
     }
-    let job = job_for(shape, r, h, n);
-    if one_in(r, 0, of(shape, BAD)) {
-        return bad_request(r, job);
-    }
-    if wants_leave(shape, r, open, job == job_of(at(h, 0))) {
-        return leave(shape, r, job);
-    }
-    step(shape, r, job)
+    REST
 }
 
-fn first_number(shape: u64, r: u64) -> u64 {
-    if of(shape, LAST) == 1 {
-        return 4294967295 - (r >> 20) % 40;
-    }
-    (r >> 20) % 3
+// It is counted in its row, and in what the row is summed to.
+fn tally(h: &mut List, what: u64) {
+    let row = what >> 16;
+    tally_in(h, row as usize, what);
+    tally_in(h, sum_of(row) as usize, what);
 }
 
-// 256 requests from a fresh state. How many were granted?
-fn window(shape: u64, seed: u64, h: &mut List, counts: &mut List) -> usize {
-    let mut now = fresh(first_number(shape, seed));
-    let mut r = seed;
+// ---- numbers as bytes
+
+type Bytes = [u8; 32784];
+
+// Byte i of a list, from a place on.
+fn byte_at(list: &List, from: usize, i: usize) -> u8 {
+    ((at(list, from | i / 8) >> (i % 8 * 8)) % 256) as u8
+}
+
+// The first bytes of a list, from a place on.
+fn bytes_of(list: &List, from: usize, count: usize) -> Bytes {
+    let mut bytes = [0u8; 32784];
     let mut i: usize = 0;
-    while i < 256 {
-        r = shifted(shifted(r));
-        let asked = request(shape, r, h, now.n);
-        now = ask(now, h, asked, counts);
-        i += 1;
-    }
-    now.n
-}
-
-// ---- the tried histories
-
-// What the first letter of a word adds, so that no word is taken for a number.
-const LETTER: u64 = 1099511627776;
-
-// A word or a number with one byte more.
-fn grown(old: u64, byte: u8) -> u64 {
-    if LETTER <= old || byte == b':' {
-        return old;
-    }
-    if byte < b'0' || b'9' < byte {
-        return LETTER + byte as u64;
-    }
-    old * 10 + (byte % 16) as u64
-}
-
-// A line with one byte more: its words and numbers are its fields, with one blank between.
-fn take_byte(fields: &mut List, k: usize, byte: u8) -> usize {
-    if byte == b' ' {
-        return one_more(k);
-    }
-    let x = grown(at(fields, k), byte);
-    put(fields, k, x);
-    k
-}
-
-fn kind_named(word: u64) -> u64 {
-    match word {
-        // LETTER and the o of open, the r of read, the w of write, the e of end, the a of abandon
-        1099511627887 => 1,
-        1099511627890 => 2,
-        1099511627895 => 3,
-        1099511627877 => 4,
-        1099511627873 => 5,
-        _ => word,
-    }
-}
-
-// What a row asks: its kind, byte 1, cell and job.
-fn asked_in(fields: &List) -> u64 {
-    let kind = kind_named(at(fields, 0));
-    record(kind, at(fields, 1), at(fields, 2), at(fields, 3))
-}
-
-// Is the reply the one that the row has, code and job?
-fn is_written(fields: &List, reply: u64) -> bool {
-    (kind_of(reply) == at(fields, 4)) & (job_of(reply) == at(fields, 5))
-}
-
-// A row, of five blanks.
-fn row(before: Stand, h: &mut List, fields: &List, counts: &mut List) -> Stand {
-    let now = ask(before, h, asked_in(fields), counts);
-    bump_if(counts, DIFFER, !is_written(fields, now.reply));
-    now
-}
-
-// A line: nothing or a comment, a history, or a row. A line that cannot be read counts as one that differs.
-fn line(before: Stand, h: &mut List, fields: &List, k: usize, counts: &mut List) -> Stand {
-    let word = at(fields, 0);
-    // nothing, or LETTER and the mark of a comment
-    if (word == 0 && k == 0) || word == LETTER + 35 {
-        return before;
-    }
-    // LETTER and the h of history
-    if word == LETTER + 104 {
-        bump_if(counts, HISTORIES, true);
-        return fresh(at(fields, 1));
-    }
-    if k == 5 {
-        return row(before, h, fields, counts);
-    }
-    bump_if(counts, DIFFER, true);
-    before
-}
-
-fn tried(text: &[u8], counts: &mut List) {
-    let mut h = [0u64; 520];
-    let mut now = fresh(0);
-    let mut fields = [0u64; 520];
-    let mut k: usize = 0;
-    let mut i: usize = 0;
-    while i < text.len() {
-        let byte = text[i];
-        if byte == b'\n' {
-            now = line(now, &mut h, &fields, k, counts);
-            fields = [0; 520];
-            k = 0;
-        } else {
-            k = take_byte(&mut fields, k, byte);
+    while i < 32784 {
+        if count <= i {
+            break;
         }
+        bytes[i] = byte_at(list, from, i);
         i += 1;
     }
+    bytes
+}
+
+fn wide(byte: u8) -> u64 {
+    byte as u64
+}
+
+// The number in eight bytes.
+fn number_of(bytes: &[u8]) -> u64 {
+    let mut number: u64 = 0;
+    let mut i: usize = 0;
+    while i < bytes.len() {
+        number = number >> 8 | wide(bytes[i]) << 56;
+        i += 1;
+    }
+    number
+}
+
+// ---- one request, to both
+
+// The arbiter's reply to the last of the requests. It is asked all of them, from its fresh state.
+fn arbiter_says(h: &List) -> u64 {
+    let n = (at(h, ASKED) % 2048 * 8) as usize;
+    let m = n + 8;
+    let requests = bytes_of(h, ASKS, m);
+    let mut answers = [0u8; 32784];
+    let first = JobNumber((at(h, FIRST) % 4294967296) as u32);
+    let asked = &requests[..];
+    arbiter::replay(first, &asked[0..m], &mut answers);
+    let said = &answers[..];
+    number_of(&said[n..m])
+}
+
+// An empty history begins, with its first number.
+fn begin(h: &mut List, first: u64, row: u64) {
+    put(h, LENGTH, 0);
+    put(h, ASKED, 0);
+    put(h, FIRST, first);
+    tally(h, row << 16 | BEGIN);
+}
+
+// What is kept of a granted request: a step as it was asked, and anything else with cell 0 and the number of the reply.
+fn kept(asked: u64, reply: u64) -> u64 {
+    if asked & 2 != 0 {
+        return asked;
+    }
+    asked % 256 | reply
+}
+
+// The arbiter's reply to one request more.
+fn reply_of(h: &mut List, asked: u64) -> u64 {
+    let i = (at(h, ASKED) % 2048) as usize;
+    put(h, ASKS | i, asked);
+    let reply = arbiter_says(h);
+    bump(h, ASKED, 1);
+    reply
+}
+
+fn ask(h: &mut List, row: u64, asked: u64, want: u64) {
+    let mine = decide(h, asked);
+    let theirs = reply_of(h, asked);
+    if mine % 256 == 0 {
+        add(h, kept(asked, mine));
+    }
+    tally(h, compared(row, mine, theirs, want));
 }
 
 // ---- a log and its order
 
-// A verdict is one number: the code, and the place times 256.
-fn found(code: u64, place: usize) -> u64 {
-    code % 256 + (place as u64 % 4294967296) * 256
-}
-
-// Is the record an open of this number or a higher one?
-fn bars(r: u64, job: u64) -> bool {
-    (kind_of(r) == 1) & (job <= job_of(r))
-}
-
-fn is_barred(h: &List, n: usize, job: u64) -> bool {
-    let mut i: usize = 0;
-    while i < n {
-        if bars(at(h, i), job) {
-            return true;
-        }
-        i += 1;
-    }
-    false
-}
-
-// Is a record out of turn after the first n?
-fn out_of_turn(h: &List, n: usize, kind: u64, job: u64) -> bool {
-    if kind == 1 {
-        return is_barred(h, n, job);
-    }
-    !is_open(h, n, job) || (kind == 5 && has(h, n, 3, job))
-}
-
 // A wrong kind, byte 1 not zero, a cell above 255, or one that must be 0 and is not.
-fn is_bad(r: u64) -> bool {
-    let cell = cell_of(r);
-    malformed(r) | (255 < cell) | ((cell != 0) & !is_step(r))
+fn is_bad(record: u64) -> bool {
+    let cell = record / 65536 % 65536;
+    is_malformed(record) | (255 < cell) | ((cell != 0) & (record & 2 == 0))
 }
 
-// The fault of the record at place i, and 0 where it has none.
-fn fault(h: &List, i: usize) -> u64 {
-    let r = at(h, i);
-    if is_bad(r) {
-        return 12;
-    }
-    if out_of_turn(h, i, kind_of(r), job_of(r)) {
+// The fault of an open, where so much was seen of its job before.
+fn open_fault(h: &List, i: usize, marks: u64) -> u64 {
+    if marks & (HIGHER | OPENED) != 0 {
         return 13;
     }
-    if kind_of(r) == 1 && 512 <= count(h, i, OPENED) {
+    if 512 <= i && 512 <= count(h, i, OPENED) {
         return 14;
     }
     0
 }
 
+// The fault of the record at place i, and 0 where it has none.
+fn fault(h: &List, i: usize) -> u64 {
+    let record = at(h, i);
+    if is_bad(record) {
+        return 12;
+    }
+    let marks = marks_of(h, i, record >> 32);
+    if record % 256 == 1 {
+        return open_fault(h, i, marks);
+    }
+    if refusal(record, marks) != 0 {
+        return 13;
+    }
+    0
+}
+
+// A code with a place.
+fn found(code: u64, place: usize) -> u64 {
+    code | (place as u64) << 32
+}
+
+// The first fault of n records, with its place, and 0 where there is none.
 fn first_fault(h: &List, n: usize) -> u64 {
     let mut i: usize = 0;
     while i < n {
@@ -724,47 +453,21 @@ fn first_fault(h: &List, n: usize) -> u64 {
     0
 }
 
-// Is the entry a kept job that does not stand before it?
-fn is_good(h: &List, n: usize, order: &List, k: usize) -> bool {
-    let job = at(order, k);
-    seek(order, 0, k, ALL, job) == k && is_kept(h, n, job)
-}
-
-// The first entry of m that is not good, and m where there is none.
-fn first_bad(h: &List, n: usize, order: &List, m: usize) -> usize {
-    let mut k: usize = 0;
-    while k < m {
-        if !is_good(h, n, order, k) {
-            return k;
-        }
-        k += 1;
+// What is wrong with a log, and 0 where nothing is.
+fn judge(h: &List) -> u64 {
+    let length = at(h, LENGTH);
+    if (length % 8 != 0) | (32768 < length) {
+        return 11;
     }
-    m
+    first_fault(h, size(h))
 }
 
-// The place in the order of each record's job; m where it is not there.
-fn place_all(h: &List, n: usize, order: &List, m: usize, places: &mut List) {
-    let mut i: usize = 0;
-    while i < n {
-        let k = seek(order, 0, m, ALL, job_of(at(h, i)));
-        put(places, i, k as u64);
-        i += 1;
-    }
-}
-
-// Is the record at place b the later one of a conflicting pair of kept steps that runs backward? The earlier one's job then stands behind its own.
-fn runs_back(h: &List, places: &List, b: usize, m: usize) -> bool {
-    let low = std::num::wrapping_add_u64(at(places, b), 1);
-    meets(h, places, b, low, m as u64)
-}
-
-// The first such place of n, and n where there is none.
-fn first_back(h: &List, n: usize, order: &List, m: usize) -> usize {
-    let mut places = [0u64; 520];
-    place_all(h, n, order, m, &mut places);
+// The first of n places with a record of the job that waits: one before it, of a job that is not taken out, is in conflict with it. Where there is none, n.
+fn first_waiting(w: &List, n: usize, job: u64) -> usize {
     let mut b: usize = 0;
     while b < n {
-        if runs_back(h, &places, b, m) {
+        let record = at(w, b);
+        if record >> 32 == job && meets(w, b, record, 0) {
             return b;
         }
         b += 1;
@@ -772,64 +475,42 @@ fn first_back(h: &List, n: usize, order: &List, m: usize) -> usize {
     n
 }
 
-// The verdict on an order of m entries. Where all of them are kept jobs, each once, a kept job is missing exactly where there are more of these.
-fn judge_order(h: &List, n: usize, order: &List, m: usize) -> u64 {
-    let bad = first_bad(h, n, order, m);
-    if bad < m {
-        return found(15, bad);
-    }
-    if count(h, n, KEPT) != m as u64 {
+// The verdict on an order, when m jobs have been taken out in it: is one left? The first of n places that waited is that of a pair that runs backward.
+fn passed(left: &List, n: usize, m: usize, back: usize) -> u64 {
+    if count(left, n, OPENED) != 0 {
         return found(15, m);
     }
-    let back = first_back(h, n, order, m);
     if back < n {
         return found(16, back);
     }
     found(0, m)
 }
 
-// The verdict on a log of so many bytes. Where it is longer than the list, a record of 0 follows, whose kind is wrong.
-fn judge(h: &List, length: usize, order: &List, m: usize) -> u64 {
-    if length % 8 != 0 || 32768 < length {
-        return found(11, 0);
-    }
-    let n = length / 8;
-    let first = first_fault(h, n);
-    if kind_of(first) != 0 {
-        return first;
-    }
-    judge_order(h, n, order, m)
-}
-
-// ---- the lister's order: at each place the lowest kept job not yet placed, all of whose predecessors are placed. A record whose job is placed or abandoned has
-// a mark.
-
-// Does the job wait for one that has no mark?
-fn waits(h: &List, n: usize, marks: &List, job: u64) -> bool {
-    let mut b: usize = 0;
-    while b < n {
-        if job_of(at(h, b)) == job && meets(h, marks, b, 0, 1) {
-            return true;
+// The verdict on an order for a log without a fault. The kept jobs are taken out one after the other: an entry is bad where no such job is there any more.
+fn check_order(h: &List, order: &List) -> u64 {
+    let n = size(h);
+    let m = size(order);
+    let mut w = without(h, n, ABANDONED);
+    let mut back = n;
+    let mut k: usize = 0;
+    while k < m {
+        let job = at(order, k);
+        if marks_of(&w, n, job) & OPENED == 0 {
+            return found(15, k);
         }
-        b += 1;
+        back = first_waiting(&w, back, job);
+        change(&mut w, n, job, 0);
+        k += 1;
     }
-    false
+    passed(&w, n, m, back)
 }
 
-// Can the job of the record at place i come next? By number alone: without regard to predecessors.
-fn is_ready(h: &List, n: usize, marks: &List, i: usize, by_number: bool) -> bool {
-    let r = at(h, i);
-    if kind_of(r) != 1 || at(marks, i) != 0 {
-        return false;
-    }
-    by_number || !waits(h, n, marks, job_of(r))
-}
-
-// Where the job that comes next is opened, and n where none can. The numbers of a log rise, so it is the lowest.
-fn next_ready(h: &List, n: usize, marks: &List, by_number: bool) -> usize {
+// Where the job is opened that comes next, and n where none can. The numbers of a log rise, so it is the lowest.
+fn next_ready(w: &List, n: usize) -> usize {
     let mut i: usize = 0;
     while i < n {
-        if is_ready(h, n, marks, i, by_number) {
+        let record = at(w, i);
+        if record % 256 == 1 && first_waiting(w, n, record >> 32) == n {
             return i;
         }
         i += 1;
@@ -837,337 +518,530 @@ fn next_ready(h: &List, n: usize, marks: &List, by_number: bool) -> usize {
     n
 }
 
-// The order, and how many entries it has. Where no order exists, they are fewer than the kept jobs.
-fn list(h: &List, n: usize, order: &mut List, by_number: bool) -> usize {
-    let mut marks = [0u64; 520];
-    mark_left(h, n, &mut marks, 5);
+// What a lent list has before, and no order has.
+const BLANK: u64 = 0xffff_0000;
+
+// Place after place the lowest kept job without a place that no job without a place precedes. Where no order exists, not all kept jobs get one.
+fn laid(h: &List) -> List {
+    let n = size(h);
+    let mut w = without(h, n, ABANDONED);
+    let mut order = [BLANK; 4608];
     let mut m: usize = 0;
-    while m < 520 {
-        let i = next_ready(h, n, &marks, by_number);
+    put(&mut order, LENGTH, 0);
+    while m < 600 {
+        let i = next_ready(&w, n);
         if i == n {
-            return m;
+            break;
         }
-        let job = job_of(at(h, i));
-        put(order, m, job);
-        mark(h, n, &mut marks, job, 1);
+        let job = at(&w, i) >> 32;
+        add(&mut order, job);
+        change(&mut w, n, job, 0);
         m += 1;
     }
-    m
+    order
+}
+
+// The lister's answer for a log without a fault, with room for so many jobs, where the order is as laid.
+fn list_order(h: &List, room: usize, order: &List) -> u64 {
+    let jobs = count(h, size(h), KEPT) as usize;
+    if room < jobs {
+        return found(18, jobs);
+    }
+    if size(order) != jobs {
+        return 17;
+    }
+    found(0, jobs)
 }
 
 // ---- verdicts compared
 
-type Log = [u8; 65536];
+type Lent = [u32; 600];
 
-type Order = [u32; 520];
-
-fn put_byte(log: &mut Log, i: usize, x: u8) {
-    if i < 65536 {
-        log[i] = x;
-    }
-}
-
-// The bytes of the records.
-fn write_log(h: &List, log: &mut Log) {
+// The list as one to lend.
+fn lent(list: &List) -> Lent {
+    let mut entries = [0u32; 600];
     let mut i: usize = 0;
-    while i < 4160 {
-        put_byte(log, i, byte_of(at(h, i / 8), (i % 8) as u64));
+    while i < 600 {
+        entries[i] = (at(list, i) % 4294967296) as u32;
         i += 1;
     }
+    entries
 }
 
-fn put_entry(order: &mut Order, i: usize, job: u64) {
-    if i < 520 {
-        order[i] = (job % 4294967296) as u32;
-    }
-}
-
-fn write_order(order: &List, out: &mut Order) {
+// Does the lent list have what the list has?
+fn is_lent(list: &List, lent: &Lent) -> bool {
+    let entries = &lent[..];
+    let mut same = true;
     let mut i: usize = 0;
-    while i < 520 {
-        put_entry(out, i, at(order, i));
+    while i < entries.len() {
+        same = same & (entries[i] == (at(list, i) % 4294967296) as u32);
         i += 1;
     }
+    same
 }
 
-// The checker's verdict on the first bytes and entries.
-fn checked(log: &Log, length: usize, order: &Order, m: usize) -> Checked {
+fn check_log(h: &List, order: &List) -> u64 {
+    let code = judge(h);
+    if code != 0 {
+        return code;
+    }
+    check_order(h, order)
+}
+
+fn checker_says(h: &List, order: &List) -> u64 {
+    let n = (at(h, LENGTH) % 32785) as usize;
+    let m = size(order) % 601;
+    let log = bytes_of(h, 0, n);
+    let list = lent(order);
     let bytes = &log[..];
-    let entries = &order[..];
-    let l = length % 65537;
-    let k = m % 521;
-    orders::check_order(&bytes[0..l], &entries[0..k])
+    let jobs = &list[..];
+    let said = orders::reedtangle_check_order(&bytes[0..n], &jobs[0..m]);
+    said >> 32 | said << 32
 }
 
-fn same_verdict(verdict: u64, theirs: Checked) -> bool {
-    let code = theirs.code() as u64;
-    let place = theirs.place() as u64;
-    (kind_of(verdict) == code) & (verdict / 256 == place)
+fn try_check(h: &List, order: &List, row: u64, want: u64) -> u64 {
+    let mine = check_log(h, order);
+    compared(row, mine, checker_says(h, order), want)
 }
 
-// Code 0 is counted at 0, and 11 to 18 at 1 to 8.
-fn place_of(code: u64) -> u64 {
-    if code == 0 {
-        return 0;
+fn list_log(h: &List, room: usize, order: &List) -> u64 {
+    let code = judge(h);
+    if code != 0 {
+        return code;
     }
-    std::num::wrapping_sub_u64(code, 10)
+    list_order(h, room, order)
 }
 
-// A log of so many bytes, with an order of m entries.
-fn compare(h: &List, length: usize, order: &List, m: usize, counts: &mut List) {
-    let mut log = io::large_buffer();
-    write_log(h, &mut log);
-    let mut lent = [0u32; 520];
-    write_order(order, &mut lent);
-    let theirs = checked(&log, length, &lent, m);
-    let mine = judge(h, length, order, m);
-    tally(counts, place_of(kind_of(mine)), same_verdict(mine, theirs));
+// What the lister says, where its list is as it is to be; and ALL, which is no answer, where it is not.
+fn lister_says(h: &List, room: usize, order: &List) -> u64 {
+    let n = (at(h, LENGTH) % 32785) as usize;
+    let m = room % 601;
+    let log = bytes_of(h, 0, n);
+    let mut list = [BLANK as u32; 600];
+    let bytes = &log[..];
+    let jobs = &mut list[..];
+    let said = orders::reedtangle_list_order(&bytes[0..n], &mut jobs[0..m]);
+    if !is_lent(order, &list) {
+        return ALL;
+    }
+    said >> 32 | said << 32
 }
 
-fn swap(list: &mut List, i: usize, j: usize) {
-    let x = at(list, i);
-    let y = at(list, j);
-    put(list, i, y);
-    put(list, j, x);
+// The list after an answer: nothing is put into it where that is no order.
+fn shown(order: &List, mine: u64) -> List {
+    if mine % 256 != 0 {
+        return [BLANK; 4608];
+    }
+    *order
 }
 
-fn shuffle(order: &mut List, m: usize, seed: u64) {
+fn try_list(h: &List, room: usize, row: u64, want: u64) -> u64 {
+    let order = laid(h);
+    let mine = list_log(h, room, &order);
+    let list = shown(&order, mine);
+    compared(row, mine, lister_says(h, room, &list), want)
+}
+
+// ---- the text. A line's words and numbers are its fields, four places each: the number, what a run adds, what it takes away, and how many it has.
+
+// Where the text goes on after a line.
+const NEXT: usize = 4203;
+
+// A word or a number with one byte more, if it is a letter or a digit.
+fn grown(old: u64, byte: u8) -> u64 {
+    let digit = byte ^ b'0';
+    if digit < 10 {
+        return old % 281474976710656 * 10 + digit as u64;
+    }
+    if byte < b'A' {
+        return old;
+    }
+    old % 281474976710656 * 256 + byte as u64
+}
+
+// Where what follows a byte stands. What follows the mark of a comment has no place.
+fn place_past(k: usize, byte: u8) -> usize {
+    match byte {
+        b'#' => 4608,
+        b' ' => std::num::wrapping_add_usize(k | 3, 1),
+        b'+' => (k | 3) ^ 2,
+        b'-' => (k | 3) ^ 1,
+        b'*' => k | 3,
+        _ => k,
+    }
+}
+
+// The fields of the line from a place on. Which is the last one stands at LENGTH.
+fn fields_of(text: &[u8], from: usize) -> List {
+    let mut fields = [0u64; 4608];
+    let mut k: usize = 0;
+    let mut i = from;
+    while i < text.len() {
+        let byte = text[i];
+        if byte == b'\n' {
+            break;
+        }
+        let x = grown(at(&fields, k), byte);
+        put(&mut fields, k, x);
+        k = place_past(k, byte);
+        i += 1;
+    }
+    put(&mut fields, LENGTH, (k / 4) as u64);
+    put(&mut fields, NEXT, i as u64);
+    fields
+}
+
+fn kind_named(word: u64) -> u64 {
+    match word {
+        // open, read, write, end, abandon
+        0x6f70656e => 1,
+        0x72656164 => 2,
+        0x7772697465 => 3,
+        0x656e64 => 4,
+        0x6162616e646f6e => 5,
+        _ => word,
+    }
+}
+
+// A part of a field.
+fn part(fields: &List, k: usize, i: usize) -> u64 {
+    at(fields, k << 2 | i)
+}
+
+// The request or the record whose kind is field k; or what is added to one, or what is taken away.
+fn record(fields: &List, k: usize, i: usize) -> u64 {
+    kind_named(part(fields, k, i))
+        | part(fields, std::num::wrapping_add_usize(k, 1), i) << 8
+        | part(fields, std::num::wrapping_add_usize(k, 2), i) << 16
+        | part(fields, std::num::wrapping_add_usize(k, 3), i) << 32
+}
+
+// How many numbers does a field's run have? One that does not say has one.
+fn run_of(fields: &List, k: usize) -> u64 {
+    let count = part(fields, k, 3);
+    if count == 0 {
+        return 1;
+    }
+    count
+}
+
+// So many numbers more, each a step above the one before.
+fn fill(list: &mut List, first: u64, step: u64, count: u64) {
+    let mut x = first;
+    let mut i: u64 = 0;
+    while i < count {
+        add(list, x);
+        x = std::num::wrapping_add_u64(x, step);
+        i += 1;
+    }
+}
+
+// The run of a field more.
+fn fill_run(order: &mut List, fields: &List, k: usize) {
+    let step = std::num::wrapping_sub_u64(part(fields, k, 1), part(fields, k, 2));
+    fill(order, part(fields, k, 0), step, run_of(fields, k));
+}
+
+// The order in the fields from 1 on and before field k.
+fn order_of(fields: &List, k: usize) -> List {
+    let mut order = [0u64; 4608];
+    let mut i: usize = 1;
+    while i < k {
+        fill_run(&mut order, fields, i);
+        i += 1;
+    }
+    order
+}
+
+// The answer that field k and the next have.
+fn want_of(fields: &List, k: usize) -> u64 {
+    part(fields, k, 0) | part(fields, std::num::wrapping_add_usize(k, 1), 0) << 32
+}
+
+// A row of a history. Those of a state that no requests lead to are passed over.
+fn try_row(h: &mut List, fields: &List) {
+    if at(h, FIRST) != ALL {
+        ask(h, HISTORIES, record(fields, 0, 0), want_of(fields, 4));
+    }
+}
+
+fn try_order(h: &mut List, fields: &List) {
+    let k = std::num::wrapping_sub_usize(at(fields, LENGTH) as usize, 1);
+    let order = order_of(fields, k);
+    let what = try_check(h, &order, ORDERS, want_of(fields, k));
+    tally(h, what);
+}
+
+fn try_room(h: &mut List, fields: &List) {
+    let room = part(fields, 1, 0) as usize;
+    let what = try_list(h, room, LISTS, want_of(fields, 2));
+    tally(h, what);
+}
+
+// The records of a line more.
+fn add_records(h: &mut List, fields: &List) {
+    let step = std::num::wrapping_sub_u64(record(fields, 1, 1), record(fields, 1, 2));
+    fill(h, record(fields, 1, 0), step, run_of(fields, 4));
+}
+
+// A line that asks, or one of the arbiter's slots, whose `row`, `cells` and `left` have no second telling. One that cannot be read is asked as a row, and differs.
+fn answer_line(h: &mut List, fields: &List) {
+    match at(fields, 0) {
+        // order
+        0x6f72646572 => try_order(h, fields),
+        // list
+        0x6c697374 => try_room(h, fields),
+        0x726f77 | 0x63656c6c73 | 0x6c656674 => {}
+        _ => try_row(h, fields),
+    }
+}
+
+// The line of a word: it begins a history, a state or a log, or has more of a log, or asks.
+fn tell_line(h: &mut List, fields: &List) {
+    match at(fields, 0) {
+        // history
+        0x686973746f7279 => begin(h, part(fields, 1, 0), HISTORIES),
+        // state, full
+        0x7374617465 | 0x66756c6c => put(h, FIRST, ALL),
+        // log
+        0x6c6f67 => begin(h, 0, ORDERS),
+        // tail
+        0x7461696c => bump(h, LENGTH, part(fields, 1, 0)),
+        // record
+        0x7265636f7264 => add_records(h, fields),
+        _ => answer_line(h, fields),
+    }
+}
+
+// Is it a comment, or empty? A row whose kind is 0 has six fields.
+fn is_passed(fields: &List) -> bool {
+    (at(fields, 0) == 0) & (at(fields, LENGTH) != 5)
+}
+
+fn try_text(h: &mut List, text: &[u8]) {
+    let mut from: usize = 0;
+    let mut turn: usize = 0;
+    while turn < 4096 {
+        let fields = fields_of(text, from);
+        if !is_passed(&fields) {
+            tell_line(h, &fields);
+        }
+        from = std::num::wrapping_add_usize(at(&fields, NEXT) as usize, 1);
+        turn += 1;
+    }
+}
+
+// ---- streams from a seed
+
+const SEED: u64 = 1981;
+
+// The next number of the generator.
+fn shifted(x: u64) -> u64 {
+    let y = x ^ (x << 13);
+    let z = y ^ (y >> 7);
+    z ^ (z << 17)
+}
+
+// The shapes: few cells, one job open throughout, bad requests, abandons, slots full, numbers running out. The cells in use are those with no bit but the first
+// eight here. What is asked is one of seven kinds for a job with an odd number, and of seven others for one with an even number; in shape 1, for the jobs but the
+// first, and for the first.
+fn shape_of(k: u64) -> u64 {
+    match k {
+        0 => 0x83_1223345_1223334,
+        1 => 0xc3_1233444_1122333,
+        2 => 0x33_1223345_1223345,
+        3 => 0x43_1222255_1233355,
+        4 => 0xe3_1123345_1112234,
+        _ => 0xc3_1112334_1112233,
+    }
+}
+
+fn first_number(k: u64, r: u64) -> u64 {
+    match k {
+        1 => 2147483647,
+        5 => 4294967271 - r % 24,
+        _ => r % 3,
+    }
+}
+
+// An open job, and any number where none is open.
+fn job_for(h: &List, n: usize, r: u64) -> u64 {
+    let jobs = count(h, n, OPEN);
+    if jobs == 0 {
+        return r;
+    }
+    let mut left = r % jobs;
+    let mut i: usize = 0;
+    while i < n {
+        if is_such(h, n, i, OPEN) {
+            if left == 0 {
+                return at(h, i) >> 32;
+            }
+            left = std::num::wrapping_sub_u64(left, 1);
+        }
+        i += 1;
+    }
+    r
+}
+
+// Which seven kinds may a job ask?
+fn half_of(k: u64, job: u64) -> u64 {
+    if k == 1 {
+        return job >> 31;
+    }
+    job
+}
+
+// Among the bad requests, every second has two bits changed.
+fn request(h: &List, k: u64, r: u64) -> u64 {
+    let job = job_for(h, size(h), r >> 40);
+    let shape = shape_of(k);
+    let kind = (shape >> (r % 7 * 4 + half_of(k, job) % 2 * 28)) % 16;
+    let cell = (r >> 8) & (shape >> 56);
+    let bad = ((k == 2) & (r >> 16 & 1 == 0)) as u64;
+    kind ^ cell << 16 ^ job << 32 ^ bad << (r >> 20) % 64 ^ bad << (r >> 26) % 64
+}
+
+// 256 requests from a fresh state, of a shape.
+fn window(h: &mut List, k: u64, seed: u64) {
+    let row = SHAPES + k % 6 * 16;
     let mut r = seed;
-    let mut i: usize = 0;
-    while i < m {
+    let mut i: u64 = 0;
+    begin(h, first_number(k, seed), row);
+    while i < 256 {
         r = shifted(r);
-        swap(order, i, pick(r, 2, 0, m as u64) as usize);
+        ask(h, row, request(h, k, r), ALL);
         i += 1;
     }
 }
 
-// A change of an order of m entries: two neighbours swapped, an entry put for the next, or another number put there.
-fn change(order: &mut List, m: usize, r: u64, way: u64) {
-    let i = pick(r, 0, 0, m as u64) as usize;
-    let job = at(order, i);
-    match way {
-        0 => swap(order, i, one_more(i)),
-        1 => put(order, one_more(i), job),
-        _ => put(order, i, pick(r, 1, job, 10)),
+// What is changed in a round of a record of the log: the kind to the one beside it, twice, the job, any bit; or of the log's length.
+fn bits_for(round: u64, r: u64) -> u64 {
+    match round {
+        4 => 1,
+        5 => 1,
+        6 => (r % 8) << 32,
+        7 => 1u64 << (r % 64),
+        8 => r % 16,
+        _ => 0,
     }
 }
 
-// A change of a byte, to any and more often to a close one.
-fn damage(h: &mut List, n: usize, r: u64) {
-    let i = pick(r, 0, 0, n as u64) as usize;
-    let mut bits = pick(r, 1, 1, 255);
-    if !one_in(r, 2, 4) {
-        bits = pick(r, 1, 1, 7);
+fn damaged(h: &List, round: u64, r: u64) -> List {
+    let mut log = *h;
+    let mut i = (r % 128) as usize;
+    if round == 8 {
+        i = LENGTH;
     }
-    put(h, i, at(h, i) ^ (bits << (pick(r, 3, 0, 8) % 8 * 8)));
+    put(&mut log, i, at(h, i) ^ bits_for(round, r >> 7));
+    log
 }
 
-fn try_changed(h: &List, n: usize, order: &List, m: usize, r: u64, way: u64, counts: &mut List) {
-    let mut other = *order;
-    change(&mut other, m, r, way);
-    compare(h, n % 521 * 8, &other, m, counts);
+// In the first rounds, two neighbours in an order change places.
+fn order_for(h: &List, round: u64, r: u64) -> List {
+    let mut order = laid(h);
+    let k = (r % 16) as usize;
+    if round < 4 {
+        let x = at(&order, k);
+        let y = at(&order, k + 1);
+        put(&mut order, k, y);
+        put(&mut order, k + 1, x);
+    }
+    order
 }
 
-fn try_damaged(h: &List, n: usize, order: &List, m: usize, r: u64, counts: &mut List) {
-    let mut other = *h;
-    damage(&mut other, n, r);
-    compare(&other, n % 521 * 8, order, m, counts);
+// The log of a window in a round, with an order, and with a list that has room for so many jobs, for one more, or for one less.
+fn try_round(h: &mut List, round: u64, r: u64) {
+    let log = damaged(h, round, r >> 20);
+    let order = order_for(h, round, r >> 20);
+    let room = std::num::wrapping_add_usize(size(&order), (r % 3) as usize);
+    let checked = try_check(&log, &order, STREAM_ORDERS, ALL);
+    let listed = try_list(
+        &log,
+        std::num::wrapping_sub_usize(room, 1),
+        STREAM_LISTS,
+        ALL,
+    );
+    tally(h, checked);
+    tally(h, listed);
 }
 
-fn try_cut(h: &List, n: usize, order: &List, m: usize, r: u64, counts: &mut List) {
-    let length = pick(r, 4, 0, n as u64 % 521 * 8) as usize;
-    compare(h, length, order, m, counts);
-    compare(h, n % 521 * 8, order, length % 521, counts);
-}
-
-// Three rounds of changes, damages and cuts.
-fn try_rounds(h: &List, n: usize, order: &List, m: usize, seed: u64, counts: &mut List) {
-    let mut r = seed;
-    let mut way: u64 = 0;
-    while way < 3 {
+// Twenty windows of each shape, and nine rounds after each.
+fn try_streams(h: &mut List) {
+    let mut r = SEED;
+    let mut i: u64 = 0;
+    while i < 1200 {
         r = shifted(r);
-        try_changed(h, n, order, m, r, way, counts);
-        try_damaged(h, n, order, m, r, counts);
-        try_cut(h, n, order, m, r, counts);
-        way += 1;
-    }
-}
-
-// The log of a window: the lister's order, with changes; the order of opening; and any order.
-fn try_window(h: &List, n: usize, r: u64, counts: &mut List) {
-    let length = n % 521 * 8;
-    let mut order = [0u64; 520];
-    let m = list(h, n, &mut order, false);
-    compare(h, length, &order, m, counts);
-    try_rounds(h, n, &order, m, r, counts);
-    list(h, n, &mut order, true);
-    compare(h, length, &order, m, counts);
-    shuffle(&mut order, m, r);
-    compare(h, length, &order, m, counts);
-}
-
-// 520 opens.
-fn fill(h: &mut List) {
-    let mut i: usize = 0;
-    while i < 520 {
-        put(h, i, record(1, 0, 0, i as u64 * 3 + 7));
+        if i % 10 == 0 {
+            window(h, i / 200, r);
+        } else {
+            try_round(h, i % 10, r);
+        }
         i += 1;
     }
 }
 
-// 512 opens, and more; a fault in the record of the 513th.
-fn try_opens(counts: &mut List) {
-    let mut h = [0u64; 520];
-    fill(&mut h);
-    let mut order = [0u64; 520];
-    list(&h, 512, &mut order, true);
-    compare(&h, 4096, &order, 512, counts);
-    compare(&h, 4160, &order, 512, counts);
-    put(&mut h, 512, record(1, 0, 0, 9));
-    compare(&h, 4160, &order, 512, counts);
-    put(&mut h, 512, record(1, 1, 0, 9));
-    compare(&h, 4160, &order, 512, counts);
+// ---- the report
+
+// A byte, or the count at a place for a mark.
+fn say_piece(h: &List, place: usize, byte: u8) {
+    if byte == b'#' {
+        io::print_decimal(libc::STDOUT_FILENO, at(h, place));
+        return;
+    }
+    let one = [byte];
+    io::write_all(libc::STDOUT_FILENO, &one);
 }
 
-// No bytes, as many as a log may have, one more, and a record more.
-fn try_lengths(counts: &mut List) {
-    let zeros = [0u64; 520];
-    compare(&zeros, 0, &zeros, 0, counts);
-    compare(&zeros, 32768, &zeros, 0, counts);
-    compare(&zeros, 32769, &zeros, 0, counts);
-    compare(&zeros, 32776, &zeros, 0, counts);
+// The place of the next count: each line has a row.
+fn next_count(place: usize, byte: u8) -> usize {
+    match byte {
+        b'#' => std::num::wrapping_add_usize(place, 1),
+        b'\n' => std::num::wrapping_add_usize(place | 15, 1),
+        _ => place,
+    }
 }
 
-// ---- what is written
-
-fn say(words: &[u8]) {
-    io::write_all(libc::STDOUT_FILENO, words);
-}
-
-// A blank, then the count.
-fn say_count(counts: &List, i: usize) {
-    say(b" ");
-    io::print_decimal(libc::STDOUT_FILENO, at(counts, i));
-}
-
-fn say_codes(counts: &List) {
+// The words, with the counts for their marks.
+fn say_all(h: &List, words: &[u8]) {
+    let mut place = COUNTS;
     let mut i: usize = 0;
-    while i < 9 {
-        say_count(counts, i);
+    while i < words.len() {
+        let byte = words[i];
+        say_piece(h, place, byte);
+        place = next_count(place, byte);
         i += 1;
     }
 }
 
-// How many, of what, with which codes, and how many differed.
-fn say_line(counts: &List, what: &[u8]) {
-    say_count(counts, ASKED);
-    say(what);
-    say_codes(counts);
-    say(b"; differ:");
-    say_count(counts, DIFFER);
-    say(b"\n");
-}
-
-fn say_requests(counts: &List) {
-    say_line(
-        counts,
-        b" requests; codes 0 to 7, and of 7 through ended jobs:",
+fn report(h: &List) {
+    say_all(
+        h,
+        b"seed 1981; codes 0 to 7, and of 7 those through ended jobs; of orders and lists, codes 0 and 11 to 18
+few cells: # differ of # requests: # # # # # # # #, #; # histories
+one job open throughout: # differ of # requests: # # # # # # # #, #; # histories
+bad requests: # differ of # requests: # # # # # # # #, #; # histories
+abandons: # differ of # requests: # # # # # # # #, #; # histories
+slots full: # differ of # requests: # # # # # # # #, #; # histories
+numbers running out: # differ of # requests: # # # # # # # #, #; # histories
+all streams: # differ of # requests: # # # # # # # #, #; # histories
+tried histories: # differ of # requests: # # # # # # # #, #; # histories
+tried orders: # differ of # verdicts: # # # # # # # # #; # logs
+tried lists: # differ of # answers: # # # # # # # # #
+orders of the streams: # differ of # verdicts: # # # # # # # # #
+lists of the streams: # differ of # answers: # # # # # # # # #
+recount: # differ
+",
     );
 }
 
-fn add_at(sums: &mut List, counts: &List, i: usize) {
-    let sum = std::num::wrapping_add_u64(at(sums, i), at(counts, i));
-    put(sums, i, sum);
-}
-
-fn add(sums: &mut List, counts: &List) {
-    let mut i: usize = 0;
-    while i < 12 {
-        add_at(sums, counts, i);
-        i += 1;
-    }
-}
-
-// ---- the run
-
-// Twenty windows of a shape.
-fn stream(shape: u64, seed: u64, sums: &mut List, verdicts: &mut List) {
-    let mut counts = [0u64; 520];
-    let mut h = [0u64; 520];
-    let mut r = seed;
-    let mut i: usize = 0;
-    while i < 20 {
-        r = shifted(std::num::wrapping_add_u64(r, 0x9e37_79b9_7f4a_7c15));
-        let n = window(shape, r, &mut h, &mut counts);
-        try_window(&h, n, r, verdicts);
-        i += 1;
-    }
-    say_requests(&counts);
-    add(sums, &counts);
-}
-
-fn say_name(k: u64) {
-    match k {
-        0 => say(b"few cells:"),
-        1 => say(b"one job open throughout:"),
-        2 => say(b"bad requests:"),
-        3 => say(b"abandons:"),
-        4 => say(b"slots full:"),
-        _ => say(b"numbers running out:"),
-    }
-}
-
-fn shape_of(k: u64) -> u64 {
-    match k {
-        // last stays abandons bad writes opens most cells
-        0 => 0x00_00_06_28_02_05_0c_06,
-        1 => 0x00_01_06_28_02_05_06_18,
-        2 => 0x00_00_06_03_02_05_0c_ff,
-        3 => 0x00_00_02_28_04_05_0c_08,
-        4 => 0x00_00_06_28_02_02_21_60,
-        _ => 0x01_00_06_28_02_05_14_28,
-    }
-}
-
-fn streams(sums: &mut List, verdicts: &mut List) {
-    let mut k: u64 = 0;
-    while k < 6 {
-        say_name(k);
-        stream(shape_of(k), k, sums, verdicts);
-        k += 1;
-    }
-    say(b"all streams:");
-    say_requests(sums);
-}
-
-fn try_text(counts: &mut List) {
+fn main() {
     let mut space = io::large_buffer();
     let count = io::read_full(libc::STDIN_FILENO, &mut space);
-    tried(&space[..count], counts);
-    bump_if(counts, DIFFER, count == 65536);
-    say(b"tried histories:");
-    say_count(counts, HISTORIES);
-    say(b" histories,");
-    say_requests(counts);
-}
-
-fn try_logs(counts: &mut List) {
-    try_opens(counts);
-    try_lengths(counts);
-    say(b"orders:");
-    say_line(counts, b" verdicts; codes 0 and 11 to 18:");
-}
-
-fn main() {
-    let mut sums = [0u64; 520];
-    let mut verdicts = [0u64; 520];
-    let mut counts = [0u64; 520];
-    streams(&mut sums, &mut verdicts);
-    try_text(&mut counts);
-    try_logs(&mut verdicts);
-    add(&mut sums, &counts);
-    add(&mut sums, &verdicts);
-    say(b"recount:");
-    say_count(&sums, DIFFER);
-    say(b" differ\n");
+    let mut h = [0u64; 4608];
+    try_text(&mut h, &space[..count]);
+    try_streams(&mut h);
+    let more = at(&h, STREAMS as usize);
+    bump(&mut h, REST as usize, more);
+    report(&h);
 }

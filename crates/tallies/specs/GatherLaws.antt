@@ -1,27 +1,26 @@
 -- One pass over the told steps makes for each job the set of its predecessors. For each cell there is a set of the jobs that have read it so far and one of those that have
 -- written it. A step's job is preceded by those that have written its cell and, if the step alters the cell, by those that have read it; never by itself.
--- In order: the sets, and one step more (`sets-write`, `sets-read`); what stands after so many records (`Gathered`), and each way on from there.
+-- In order: the sets, and one step more (`sets-write`, `sets-read`); what stands after so many records (`Gathered`), and each way on from a kept step.
 -- Assumes nothing.
-use mathlib.Core.Path.{_≡_, refl, sym, ap, _∙_, subst}
+use mathlib.Core.Path.{_≡_, sym, ap, _∙_, subst}
 use mathlib.Core.Logic.{_⊎_, inl, inr, ⊎-elim}
 use mathlib.Core.Bool.{Bool, false, not, _&&_, _||_}
-use mathlib.Core.List.{List, [], _∷_, _++_, append-nil, append-assoc, List·Memᴰ·not-nil, List·Memᴰ·append-cases, Memᴰ·append-left, Memᴰ·append-right, List·Memᴰ·eq-of-singleton}
-use Prim.Native.Nat.{ℕ, suc, _+_, _*_, _/_, _≤_, _<_}
-use native.Mathlib.Numerals.{add-one}
+use mathlib.Core.List.{List, [], _∷_, _++_, List·Memᴰ·not-nil, List·Memᴰ·append-cases, Memᴰ·append-left, Memᴰ·append-right, List·Memᴰ·eq-of-singleton}
+use Prim.Native.Nat.{ℕ, _+_, _*_, _/_, _≤_, _<_}
 use native.Mathlib.Omega.{arith}
 use lib.Dec.{T, eqb}
 use lib.ListN.{length, getD, replicate, getD-replicate}
-use Rattle.graph.specs.Decide.{Decides, and-test, or-test, not-test, eq-test, lt-test, read-as, same-test, test-true, test-false, false-is}
-use Rattle.graph.specs.Lists.{_∈_, here, only-yes, only-no, before-nil, before-cons, before-in-left, before-across, before-append}
+use Rattle.graph.specs.Decide.{Decides, and-test, or-test, not-test, eq-test, lt-test, read-as, same-test, false-is}
+use Rattle.graph.specs.Lists.{_∈_, here, before-nil, before-cons, before-in-left, before-across, before-append}
 use Rattle.marks.specs.WordLaws.{marked-none}
-use Rattle.history.specs.Events.{Kind, read, write, clash, alters, History, has, opened, abandoned, Step, steps-from, all-steps, kept-steps, Precedes}
+use Rattle.history.specs.Events.{Kind, read, write, clash, alters, History, opened, Step, kept-steps, Precedes}
 use Rattle.history.specs.EventLaws.{precedes-in, no-self, precedes-test}
 use Rattle.history.specs.Memory.{same-kind}
-use Rattle.history.specs.TurnLaws.{has-test}
-use Rattle.tallies.specs.Jobs.{status, Told, Taken}
+use Rattle.tallies.specs.Jobs.{Taken}
 use Rattle.tallies.specs.Marks.{in-row, Put, Struck, Joined, Preceded}
-use Rattle.tallies.specs.TableLaws.{same-entry, status-gone}
-use Rattle.tallies.specs.TurnedLaws.{keeps, slot-at, cell-at, mark-at, kind-mark, kind-writes, kind-reads, clash-cases, clash-write, clash-read, apart, Record, no-step, a-step, at-record}
+use Rattle.tallies.specs.TableLaws.{same-entry}
+use Rattle.tallies.specs.PassLaws.{slot-at, cell-at, mark-at, kind-mark, kind-writes, kind-reads, Pass, Meets, pass-start, pass-all, pass-on}
+use Rattle.tallies.specs.TurnedLaws.{clash-cases, clash-write, clash-read}
 
 -- ---- the sets
 
@@ -229,141 +228,46 @@ module _ {jobs : List ℕ} {b : Step} {k c : ℕ} (n : Comes jobs b k c) (s : Li
 
 -- ---- the pass
 
--- after i records: the rest of the history, and the kept steps so far
-pub record At (h : History) (n : ℕ) (told : List ℕ) (i : ℕ) (preds readers writers : List ℕ) (rest : History) (done : List Step) : Type 0 where
-  left : i + length rest ≡ n
-  tells : Told (opened h) told i rest
-  split : kept-steps h ≡ done ++ keeps h (steps-from i rest)
-  sets : Sets (opened h) done preds readers writers
+-- after i records: the sets are those of the kept steps so far
+abbrev Here : History → List ℕ → List ℕ → List ℕ → List Step → List Step → Type 0
+Here h preds readers writers done later = Sets (opened h) done preds readers writers
 
-pub data Gathered (h : History) (n : ℕ) (told : List ℕ) (i : ℕ) (preds readers writers : List ℕ) : Type 0 where
-  gathered : {rest : History} {done : List Step} → At h n told i preds readers writers rest done → Gathered h n told i preds readers writers
-
--- at record i is the kept step b
-pub record Meets (h : History) (n : ℕ) (told : List ℕ) (i : ℕ) (preds readers writers : List ℕ) : Type 0 where
-  b : Step
-  rest : History
-  done : List Step
-  left : suc i + length rest ≡ n
-  tells : Told (opened h) told (suc i) rest
-  split : kept-steps h ≡ (done ++ b ∷ []) ++ keeps h (steps-from (suc i) rest)
-  sets : Sets (opened h) done preds readers writers
-  comes : Comes (opened h) b (slot-at told i) (cell-at told i)
-  kind : mark-at told i ≡ kind-mark (b .kind)
+abbrev pub Gathered : History → ℕ → List ℕ → ℕ → List ℕ → List ℕ → List ℕ → Type 0
+Gathered h n told i preds readers writers = Pass h n told i (Here h preds readers writers)
 
 module _ {h : History} {n : ℕ} {numbers states told : List ℕ} {count : ℕ} (s : Taken h n numbers states told count) where
   pub gathered-start : {preds : List ℕ} → ((x : ℕ) → getD preds x 0 ≡ 0) → Gathered h n told 0 preds (replicate 2048 0) (replicate 2048 0)
-  unfolding kept-steps all-steps
-  gathered-start {preds} z =
-      gathered {rest = h} {done = []} (record { left = let y = s .at in omega arith; tells = s .steps-told; split = refl; sets = sets-start (opened h) preds z })
+  gathered-start {preds} z = pass-start s (sets-start (opened h) preds z)
 
   -- all are passed
   pub gathered-all : {i : ℕ} {preds readers writers : List ℕ} → Gathered h n told i preds readers writers → n ≤ i → Preceded h count preds
-  gathered-all {i} {preds} (gathered {rest = rest} {done = done} a) q j x l m =
+  gathered-all {preds = preds} {readers = readers} {writers = writers} p q j x l m =
       let y = s .jobs .many in
-      same-test (a .sets .ahead j x (omega arith) m) (and-test (lt-test x count) (precedes-test (kept-steps h) (getD (opened h) x 0) (getD (opened h) j 0)))
-      (λ r. (let z = r .0 in omega arith, subst (λ (t : List Step). Precedes t (getD (opened h) x 0) (getD (opened h) j 0)) (sym whole) (r .1)))
-      (λ r. (let z = r .0 in omega arith, subst (λ (t : List Step). Precedes t (getD (opened h) x 0) (getD (opened h) j 0)) whole (r .1)))
-    where
-      go : (g : History) → i + length g ≡ n → kept-steps h ≡ done ++ keeps h (steps-from i g) → kept-steps h ≡ done
-      go [] e f = f ∙ append-nil done
-      go (v ∷ g) e f = absurd (omega arith)
+      let t : Sets (opened h) (kept-steps h) preds readers writers = pass-all s p q in
+      same-test (t .ahead j x (omega arith) m) (and-test (lt-test x count) (precedes-test (kept-steps h) (getD (opened h) x 0) (getD (opened h) j 0)))
+      (λ r. (let z = r .0 in omega arith, r .1)) (λ r. (let z = r .0 in omega arith, r .1))
 
-      whole : kept-steps h ≡ done
-      whole = go rest (a .left) (a .split)
-
-  slot-state : {slot j : ℕ} → slot < length (opened h) → getD (opened h) slot 0 ≡ j → getD states slot 0 ≡ status h j
-  slot-state {slot} q e = s .jobs .stated slot (let y = s .jobs .many in omega arith) ∙ ap (status h) e
-
-  jobs-few : length (opened h) ≤ 512
-  jobs-few = let y = s .jobs .many in let z = s .jobs .few in omega arith
-
-  slot-few : {slot : ℕ} → slot < length (opened h) → slot < 512
-  slot-few q = let y = jobs-few in omega arith
-
-  one-on : (i : ℕ) {preds readers writers : List ℕ} → Gathered h n told (suc i) preds readers writers → Gathered h n told (i + 1) preds readers writers
-  one-on i {preds} {readers} {writers} g = subst (λ (k : ℕ). Gathered h n told k preds readers writers) (sym (add-one i)) g
-
-  module _ {i : ℕ} {preds readers writers : List ℕ} where
-    -- a record that is no step
-    none-go : {rest : History} {done : List Step} → At h n told i preds readers writers rest done → Record (opened h) told i rest → getD told i 0 ≡ 0
-        → Gathered h n told (suc i) preds readers writers
-    none-go {done = done} a (no-step {e = e} {rest = rest} f z t) y =
-        gathered {rest = rest} (record {
-          left = let l = a .left in omega arith;
-          tells = t;
-          split = a .split ∙ ap (λ (l : List Step). done ++ keeps h (l ++ steps-from (suc i) rest)) f;
-          sets = a .sets;
-        })
-    none-go a (a-step {k = k} {slot = slot} {c = c} q e r x t) y = absurd (apart (getD told i 0) slot k c x (slot-few q) r .told y)
-
-    pub gathered-none : Gathered h n told i preds readers writers → i < n → getD told i 0 ≡ 0 → Gathered h n told (i + 1) preds readers writers
-    gathered-none (gathered {rest = rest} a) q z = one-on i (none-go a (at-record (opened h) told i n rest (a .left) q (a .tells)) z)
-
-    -- a step of an abandoned job
-    gone-go : {rest : History} {done : List Step} → At h n told i preds readers writers rest done → Record (opened h) told i rest → (getD told i 0 ≡ 0 → ⊥)
-        → getD states (slot-at told i) 0 ≡ 4 → Gathered h n told (suc i) preds readers writers
-    gone-go a (no-step f z t) y g = absurd (y z)
-    gone-go {done = done} a (a-step {k = k} {slot = slot} {j = j} {c = c} {rest = rest} q e r x t) y g =
-        let p = apart (getD told i 0) slot k c x (slot-few q) r in
-        let gone : j ∈ abandoned h = status-gone h j .0 (sym (slot-state q e) ∙ ap (λ (m : ℕ). getD states m 0) (sym (p .slot)) ∙ g) in
-        gathered {rest = rest} (record {
-          left = let l = a .left in omega arith;
-          tells = t;
-          split = a .split ∙ ap (λ (l : List Step). done ++ l)
-              (only-no (λ x. not (has (abandoned h) (x .job))) (record { at = i; kind = k; job = j; cell = c }) (steps-from (suc i) rest) (test-false (not-test (has-test (abandoned h) j)) (λ f. f gone)));
-          sets = a .sets;
-        })
-
-    pub gathered-gone : Gathered h n told i preds readers writers → i < n → (getD told i 0 ≡ 0 → ⊥) → getD states (slot-at told i) 0 ≡ 4
-        → Gathered h n told (i + 1) preds readers writers
-    gathered-gone (gathered {rest = rest} a) q z g = one-on i (gone-go a (at-record (opened h) told i n rest (a .left) q (a .tells)) z g)
-
-    -- a step of a kept job
-    meets-go : {rest : History} {done : List Step} → At h n told i preds readers writers rest done → Record (opened h) told i rest → (getD told i 0 ≡ 0 → ⊥)
-        → (getD states (slot-at told i) 0 ≡ 4 → ⊥) → Meets h n told i preds readers writers
-    meets-go a (no-step f z t) y g = absurd (y z)
-    meets-go {done = done} a (a-step {k = k} {slot = slot} {j = j} {c = c} {rest = rest} q e r x t) y g =
-        let p = apart (getD told i 0) slot k c x (slot-few q) r in
-        let b : Step = record { at = i; kind = k; job = j; cell = c } in
-        let stays : j ∈ abandoned h → ⊥ = λ m. g (ap (λ (m : ℕ). getD states m 0) (p .slot) ∙ slot-state q e ∙ status-gone h j .1 m) in
+  -- a kept step is met
+  module _ {i : ℕ} {preds readers writers : List ℕ} (m : Meets h n told i (Here h preds readers writers)) where
+    comes : Comes (opened h) (m .b) (slot-at told i) (cell-at told i)
+    comes =
         record {
-          b = b;
-          rest = rest;
-          done = done;
-          left = let l = a .left in omega arith;
-          tells = t;
-          split = a .split
-              ∙ ap (λ (l : List Step). done ++ l) (only-yes (λ x. not (has (abandoned h) (x .job))) b (steps-from (suc i) rest) (test-true (not-test (has-test (abandoned h) j)) stays))
-              ∙ sym (append-assoc done (b ∷ []) (keeps h (steps-from (suc i) rest)));
-          sets = a .sets;
-          comes = record {
-            few = jobs-few;
-            known = subst (λ (m : ℕ). m < length (opened h)) (sym (p .slot)) q;
-            mine = ap (λ (m : ℕ). getD (opened h) m 0) (p .slot) ∙ e;
-            one = λ x l f.
-                let y = s .jobs .many in
-                let u : x < count = omega arith in
-                let v : slot < count = omega arith in
-                same-entry (s .jobs) x slot u v (s .jobs .named x u ∙ f ∙ sym e ∙ sym (s .jobs .named slot v)) ∙ sym (p .slot);
-            cell = p .cell;
-            real = subst (λ (m : ℕ). m < 256) (sym (p .cell)) r;
-          };
-          kind = p .kind;
+          few = let y = s .jobs .many in let z = s .jobs .few in omega arith;
+          known = m .known;
+          mine = m .mine;
+          one = λ x l f.
+              let y = s .jobs .many in
+              let u : x < count = omega arith in
+              let v : slot-at told i < count = (let z = m .known in omega arith) in
+              same-entry (s .jobs) x (slot-at told i) u v (s .jobs .named x u ∙ f ∙ sym (m .mine) ∙ sym (s .jobs .named (slot-at told i) v));
+          cell = m .cell;
+          real = omega arith;
         }
 
-    pub meets : Gathered h n told i preds readers writers → i < n → (getD told i 0 ≡ 0 → ⊥) → (getD states (slot-at told i) 0 ≡ 4 → ⊥)
-        → Meets h n told i preds readers writers
-    meets (gathered {rest = rest} a) q z g = meets-go a (at-record (opened h) told i n rest (a .left) q (a .tells)) z g
+    pub gathered-write : {preds′ writers′ : List ℕ} → mark-at told i ≡ 1 → WriteMarks (slot-at told i) (cell-at told i) preds readers writers preds′ writers′
+        → Gathered h n told (i + 1) preds′ readers writers′
+    gathered-write e w = pass-on m (sets-write comes (m .done) (m .so-far) (sym (m .kind) ∙ e) w)
 
-    module _ (m : Meets h n told i preds readers writers) where
-      on : {preds′ readers′ writers′ : List ℕ} → Sets (opened h) (m .done ++ m .b ∷ []) preds′ readers′ writers′ → Gathered h n told (i + 1) preds′ readers′ writers′
-      on t = one-on i (gathered {rest = m .rest} {done = m .done ++ m .b ∷ []} (record { left = m .left; tells = m .tells; split = m .split; sets = t }))
-
-      pub gathered-write : {preds′ writers′ : List ℕ} → mark-at told i ≡ 1 → WriteMarks (slot-at told i) (cell-at told i) preds readers writers preds′ writers′
-          → Gathered h n told (i + 1) preds′ readers writers′
-      gathered-write e w = on (sets-write (m .comes) (m .done) (m .sets) (sym (m .kind) ∙ e) w)
-
-      pub gathered-read : {preds′ readers′ : List ℕ} → (mark-at told i ≡ 1 → ⊥) → ReadMarks (slot-at told i) (cell-at told i) preds readers writers preds′ readers′
-          → Gathered h n told (i + 1) preds′ readers′ writers
-      gathered-read e w = on (sets-read (m .comes) (m .done) (m .sets) (λ x. e (m .kind ∙ x)) w)
+    pub gathered-read : {preds′ readers′ : List ℕ} → (mark-at told i ≡ 1 → ⊥) → ReadMarks (slot-at told i) (cell-at told i) preds readers writers preds′ readers′
+        → Gathered h n told (i + 1) preds′ readers′ writers
+    gathered-read e w = pass-on m (sets-read comes (m .done) (m .so-far) (λ x. e (m .kind ∙ x)) w)

@@ -20,13 +20,20 @@ use Rattle.verdicts.specs.Logs.{most-jobs, fault-of}
 unfoldable pub status : History → ℕ → ℕ
 status h j = cond (has (abandoned h) j) 4 (cond (has (ended h) j) 3 (cond (wrote h j) 2 1))
 
--- the lists tell of the jobs of a history; what stands past the count is not looked at
+-- the list has so many entries, and those past the count are 0
+pub record Padded (l : List ℕ) (width count : ℕ) : Type 0 where
+  pub wide : length l ≡ width
+  pub past : (i : ℕ) → count ≤ i → getD l i 0 ≡ 0
+
+-- the lists tell of the jobs of a history, and of nothing else
 pub record Jobs (h : History) (numbers states : List ℕ) (count : ℕ) : Type 0 where
   pub turns : Turns h
   pub many : count ≡ length (opened h)
   pub few : count ≤ most-jobs
   pub named : (i : ℕ) → i < count → getD numbers i 0 ≡ getD (opened h) i 0
   pub stated : (i : ℕ) → i < count → getD states i 0 ≡ status h (getD (opened h) i 0)
+  pub numbers-padded : Padded numbers most-jobs count
+  pub states-padded : Padded states most-jobs count
 
 -- the first so many entries rise
 abbrev pub Rises : ℕ → List ℕ → Type 0
@@ -66,6 +73,7 @@ pub record Taken (h : History) (n : ℕ) (numbers states told : List ℕ) (count
   pub at : n ≡ length h
   pub steps-told : Told (opened h) told zero h
   pub rest : (i : ℕ) → n ≤ i → getD told i 0 ≡ 0
+  pub wide : length told ≡ 4096
 
 -- one record more: its fault, and without one the lists tell of one event more
 pub record Takes (h : History) (n : ℕ) (r : Request) (code : ℕ) (numbers states told : List ℕ) (count : ℕ) : Type 0 where

@@ -1,10 +1,15 @@
 pub mod Jobs
 pub mod Places
 pub mod Marks
+pub mod Counts
+pub mod PadLaws
 pub mod TableLaws
 pub mod FindLaws
 pub mod TakeLaws
+pub mod OneTable
 pub mod PlaceLaws
+pub mod CountLaws
+pub mod PassLaws
 pub mod TurnedLaws
 pub mod MarkLaws
 pub mod KeepLaws

@@ -10,7 +10,7 @@ use mathlib.Core.List.{List, [], _∷_, _++_, List·Memᴰ·not-nil, List·Mem�
 use Prim.Native.Nat.{ℕ, zero, suc, _+_, _-_, _*_, _≤_, _<_}
 use native.Mathlib.Omega.{arith}
 use lib.Dec.{T, leb, ltb, eqb}
-use lib.ListN.{length, getD, set, length-append, List·getD-append}
+use lib.ListN.{length, getD, set, length-set, length-append, List·getD-append}
 use lib.Seq.{getD-at, getD-set-same, getD-set-other}
 use Rattle.graph.specs.Decide.{Decides, and-test, or-test, not-test, eq-test, le-test, lt-test, own-test, some-test, every-of, every-test, same-test, answer, test-true, test-false}
 use Rattle.graph.specs.Lists.{_∈_, here}
@@ -19,7 +19,8 @@ use Rattle.history.specs.Replies.{cells, Request, Want, an-open, a-step, an-end
 use Rattle.history.specs.Turns.{InTurn}
 use Rattle.history.specs.TurnLaws.{Grows, which-in, old-in, new-in, stays, opened-grows, ended-grows, abandoned-grows, all-steps-grows, has-test, open-from, open-opened, open-not-abandoned, orderly, turns-next}
 use Rattle.verdicts.specs.Logs.{most-jobs, ill-formed, out-of-turn, too-many, fault-of}
-use Rattle.tallies.specs.Jobs.{status, Jobs, Finds, packed-step, Tells, Told, Taken, Takes}
+use Rattle.tallies.specs.Jobs.{status, Padded, Jobs, Finds, packed-step, Tells, Told, Taken, Takes}
+use Rattle.tallies.specs.PadLaws.{padded-set, padded-more}
 use Rattle.tallies.specs.TableLaws.{member-at, rises, same-entry, found-opened, not-found, found-state, by-status, status-open, status-one}
 
 -- ---- the fault of a record
@@ -226,8 +227,8 @@ told-next l told p (y ∷ h) e t x = (t .0, told-next l told (suc p) h e (t .1) 
 -- the numbers told after an event: the same before place n, at n what tells of the event, and after it 0
 module _ {h : History} {n : ℕ} {numbers states told : List ℕ} {count : ℕ} (t : Taken h n numbers states told count) (e : Event) where
   taken-next : {numbers₂ states₂ told₂ : List ℕ} {count₂ : ℕ} → Jobs (h ++ e ∷ []) numbers₂ states₂ count₂ → Tells (opened (h ++ e ∷ [])) e (getD told₂ n 0)
-      → ((i : ℕ) → (i ≡ n → ⊥) → getD told₂ i 0 ≡ getD told i 0) → Taken (h ++ e ∷ []) (suc n) numbers₂ states₂ told₂ count₂
-  taken-next {told₂ = told₂} jobs x same =
+      → ((i : ℕ) → (i ≡ n → ⊥) → getD told₂ i 0 ≡ getD told i 0) → length told₂ ≡ length told → Taken (h ++ e ∷ []) (suc n) numbers₂ states₂ told₂ count₂
+  taken-next {told₂ = told₂} jobs x same long =
       let a = t .at in
       record {
         jobs = jobs;
@@ -237,33 +238,37 @@ module _ {h : History} {n : ℕ} {numbers states told : List ℕ} {count : ℕ} 
             (told-wider (wider (opened-grows h e)) told told₂ zero h (λ i q. same i (λ z. omega arith)) (t .steps-told))
             (subst (λ (i : ℕ). Tells (opened (h ++ e ∷ [])) e (getD told₂ i 0)) (let z : n ≡ 0 + length h = omega arith in z) x);
         rest = λ i q. same i (λ z. omega arith) ∙ t .rest i (omega arith);
+        wide = long ∙ t .wide;
       }
 
   -- told nothing, the numbers stay
   taken-untold : {numbers₂ states₂ : List ℕ} {count₂ : ℕ} → Jobs (h ++ e ∷ []) numbers₂ states₂ count₂ → ((x : ℕ) → x ≡ 0 → Tells (opened (h ++ e ∷ [])) e x)
       → Taken (h ++ e ∷ []) (suc n) numbers₂ states₂ told count₂
-  taken-untold jobs x = taken-next jobs (x (getD told n 0) (t .rest n (omega arith))) (λ i f. refl)
+  taken-untold jobs x = taken-next jobs (x (getD told n 0) (t .rest n (omega arith))) (λ i f. refl) refl
 
 -- the table after an event of a job that is in it
 module _ {h : History} {numbers states : List ℕ} {count : ℕ} (jobs : Jobs h numbers states count) (e : Event) (turn : InTurn h e) (o : opened (h ++ e ∷ []) ≡ opened h) where
-  jobs-next : (states₂ : List ℕ) → ((i : ℕ) → i < count → getD states₂ i 0 ≡ status (h ++ e ∷ []) (getD (opened h) i 0)) → Jobs (h ++ e ∷ []) numbers states₂ count
-  jobs-next states₂ f =
+  jobs-next : (states₂ : List ℕ) → ((i : ℕ) → i < count → getD states₂ i 0 ≡ status (h ++ e ∷ []) (getD (opened h) i 0)) → Padded states₂ most-jobs count
+      → Jobs (h ++ e ∷ []) numbers states₂ count
+  jobs-next states₂ f pad =
       record {
         turns = turns-next [] h e (jobs .turns) turn;
         many = jobs .many ∙ ap length (sym o);
         few = jobs .few;
         named = λ i q. jobs .named i q ∙ ap (λ (l : List ℕ). getD l i 0) (sym o);
         stated = λ i q. f i q ∙ ap (λ (l : List ℕ). status (h ++ e ∷ []) (getD l i 0)) (sym o);
+        numbers-padded = jobs .numbers-padded;
+        states-padded = pad;
       }
 
   -- every job stands as before
   jobs-same : ((i : ℕ) → status (h ++ e ∷ []) i ≡ status h i) → Jobs (h ++ e ∷ []) numbers states count
-  jobs-same f = jobs-next states (λ i q. jobs .stated i q ∙ sym (f (getD (opened h) i 0)))
+  jobs-same f = jobs-next states (λ i q. jobs .stated i q ∙ sym (f (getD (opened h) i 0))) (jobs .states-padded)
 
   -- one job stands as s, the others as before
   jobs-set : (p j s : ℕ) → p < count → getD numbers p 0 ≡ j → count ≤ length states → status (h ++ e ∷ []) j ≡ s → ((i : ℕ) → (i ≡ j → ⊥) → status (h ++ e ∷ []) i ≡ status h i)
       → Jobs (h ++ e ∷ []) numbers (set states p s) count
-  jobs-set p j s q x l is others = jobs-next (set states p s) (λ i r. ⊎-elim (mine i r) (other i r) (answer (eq-test i p)))
+  jobs-set p j s q x l is others = jobs-next (set states p s) (λ i r. ⊎-elim (mine i r) (other i r) (answer (eq-test i p))) (padded-set (jobs .states-padded) p s q)
     where
       mine : (i : ℕ) → i < count → i ≡ p → getD (set states p s) i 0 ≡ status (h ++ e ∷ []) (getD (opened h) i 0)
       mine i r z =
@@ -289,6 +294,8 @@ jobs-opens {h} {numbers} {states} {count} jobs j turn few ln ls =
       stated = λ i q. ⊎-elim
           (λ r. getD-set-other states count i 1 0 (λ z. omega arith) ∙ jobs .stated i r ∙ sym (ap (status (h ++ opens j ∷ [])) (old i r) ∙ same (getD (opened h) i 0)))
           (λ z. ap (λ (k : ℕ). getD (set states count 1) k 0) z ∙ getD-set-same states count 1 0 ls ∙ sym (ap (status (h ++ opens j ∷ [])) (new i z) ∙ same j ∙ one)) (last i q);
+      numbers-padded = padded-more (jobs .numbers-padded) j;
+      states-padded = padded-more (jobs .states-padded) 1;
     }
   where
     o : opened (h ++ opens j ∷ []) ≡ opened h ++ j ∷ []
@@ -461,6 +468,7 @@ module _ {h : History} {n : ℕ} {numbers states told : List ℕ} {count : ℕ} 
         taken-next t (steps k j c) jobs
         (i, (let m = jobs .many in let q = r .0 in omega arith), sym (jobs .named i (r .0)) ∙ r .1, l, getD-set-same told n x 0 w ∙ e)
         (λ p ne. getD-set-other told n p x 0 ne)
+        (length-set told n x)
 
     takes-read : {c x : ℕ} → c < cells → (i ≡ count → ⊥) → getD states i 0 ≤ 2 → n < length told → x ≡ i * 512 + c + 1
         → Takes h n (asked 2 0 c j) 0 numbers states (set told n x) count

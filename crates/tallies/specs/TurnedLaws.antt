@@ -1,29 +1,29 @@
 -- One pass finds the lowest record that is the later one of a pair that the order turns round. Where the order names each kept job once, a step is such a one exactly when its
 -- job's place is below the highest place that has written its cell, or, if it alters the cell, below the highest that has read it (`backward-highest`). In order: places
--- and `Before`; the highest place of steps; the tallies after one step more; what stands after so many records (`Passed`), and each way on from there.
+-- and `Before`; the highest place of steps; the tallies after one step more; what stands after so many records (`Passed`), and each way on from a kept step.
 -- Assumes nothing.
 use mathlib.Core.Path.{_≡_, refl, sym, ap, _∙_, subst}
 use mathlib.Core.Logic.{_⊎_, inl, inr, ⊎-elim}
-use mathlib.Core.Bool.{Bool, true, false, not, _&&_, _||_, cond}
+use mathlib.Core.Bool.{Bool, true, false, _&&_, _||_, cond}
 use mathlib.Core.Option.{Option, none, some}
-use mathlib.Core.List.{List, [], _∷_, _++_, List·Memᴰ·not-nil, List·Memᴰ·cases-cons, Memᴰ·cast}
-use Prim.Native.Nat.{ℕ, zero, suc, _+_, _-_, _/_, _%_, _≤_, _<_, max}
+use mathlib.Core.List.{List, [], _∷_, List·Memᴰ·not-nil, List·Memᴰ·cases-cons, Memᴰ·cast}
+use Prim.Native.Nat.{ℕ, zero, suc, _+_, _≤_, _<_, max}
 use native.Mathlib.Nat.{le-max-left, le-max-right}
-use native.Mathlib.Numerals.{add-one}
 use native.Mathlib.Omega.{arith}
 use lib.Dec.{T, ltb, eqb}
 use lib.ListN.{length, getD, set, replicate, getD-replicate}
 use lib.Seq.{getD-set-same, getD-set-other}
-use Rattle.graph.specs.Decide.{Decides, and-test, or-test, not-test, eq-test, lt-test, own-test, read-as, same-test, some-of, some-test, every-test, by-test, answer, test-true, test-false, false-is}
-use Rattle.graph.specs.Lists.{_∈_, later, each, other, only, only-yes, only-no, Before, first, after, Once, none, more, members, before-left, before-right}
-use Rattle.history.specs.Events.{Kind, read, write, clash, alters, Event, opens, steps, ends, abandons, History, has, opened, abandoned, kept, Step, step-by, steps-from, all-steps, kept-steps}
+use Rattle.graph.specs.Decide.{Decides, and-test, or-test, eq-test, lt-test, own-test, read-as, same-test, some-of, some-test, every-test, by-test, answer, test-true, test-false, false-is}
+use Rattle.graph.specs.Lists.{_∈_, later, each, other, Before, first, after, Once, none, more, members, before-left, before-right}
+use Rattle.history.specs.Events.{Kind, read, write, clash, alters, History, opened, kept, Step, kept-steps}
 use Rattle.history.specs.Memory.{same-kind}
 use Rattle.history.specs.TurnLaws.{has-test, kept-if}
-use Rattle.verdicts.specs.Verdicts.{first-bad, missing, stands-before, backward, first-backward}
-use Rattle.verdicts.specs.VerdictLaws.{Entries, all-good, one-bad, entries, stands-test, Backward, backward-test, missing-test}
-use Rattle.tallies.specs.Jobs.{status, packed-step, Told, Taken}
+use Rattle.verdicts.specs.Verdicts.{first-bad, missing, backward, first-backward}
+use Rattle.verdicts.specs.VerdictLaws.{Entries, all-good, one-bad, entries, Backward, backward-test, missing-test}
+use Rattle.tallies.specs.Jobs.{Taken}
 use Rattle.tallies.specs.Places.{one-on, place-in, Placed, found-at, highest, Tallied}
-use Rattle.tallies.specs.TableLaws.{at-member, status-gone}
+use Rattle.tallies.specs.PassLaws.{slot-at, cell-at, mark-at, kind-mark, kind-writes, kind-reads, Pass, Meets, pass-start, pass-all, pass-on}
+use Rattle.tallies.specs.TableLaws.{at-member}
 
 -- ---- places
 
@@ -70,10 +70,6 @@ place-before {order} {i} {j} o m n q =
     ⊎-elim (λ e. absurd (let y = ap (place-in order) e in omega arith))
     (⊎-elim (λ r. r) (λ r. absurd (let y = before-place o r in omega arith)))
     (members m n)
-
--- of two jobs that the order names, the one stands before the other exactly when its place is the lower
-pub stands-place : {order : List ℕ} {i j : ℕ} → Once order → i ∈ order → j ∈ order → stands-before order i j ≡ ltb (place-in order i) (place-in order j)
-stands-place {order} {i} {j} o m n = same-test (stands-test order i j) (lt-test (place-in order i) (place-in order j)) (before-place o) (place-before o m n)
 
 -- ---- the highest place
 
@@ -210,11 +206,6 @@ highest-left order k b s l q f c p =
     (λ n. f c p ∙ sym (highest-other order k c b s (λ e t. n (e, t))))
     (answer (and-test (eq-test (b .cell) c) (own-test (same-kind (b .kind) k))))
 
--- a step's kind as a number
-abbrev pub kind-mark : Kind → ℕ
-kind-mark read = 0
-kind-mark write = 1
-
 alters-mark : (k : Kind) → T (alters k) → kind-mark k ≡ 1
 alters-mark read t = absurd t
 alters-mark write t = refl
@@ -222,16 +213,6 @@ alters-mark write t = refl
 mark-alters : (k : Kind) → kind-mark k ≡ 1 → T (alters k)
 mark-alters read e = absurd (let z : _≡_ {A = ℕ} 0 1 = e in omega arith)
 mark-alters write e = tt
-
-pub kind-writes : (k : Kind) → kind-mark k ≡ 1 → T (alters k) × T (same-kind k write) × (T (same-kind k read) → ⊥)
-unfolding same-kind
-kind-writes read e = absurd (let z : _≡_ {A = ℕ} 0 1 = e in omega arith)
-kind-writes write e = (tt, tt, λ t. t)
-
-pub kind-reads : (k : Kind) → (kind-mark k ≡ 1 → ⊥) → (T (alters k) → ⊥) × T (same-kind k read) × (T (same-kind k write) → ⊥)
-unfolding same-kind
-kind-reads read f = (λ t. t, tt, λ t. t)
-kind-reads write f = absurd (f refl)
 
 -- nothing is seen yet
 tallied-start : (order : List ℕ) → Tallied order [] (replicate 256 0) (replicate 256 0)
@@ -264,16 +245,7 @@ module _ {order : List ℕ} {s : List Step} {reads writes : List ℕ} (b : Step)
         of-writes = highest-left order write b s writes (λ r. absurd (k .2 r)) (t .of-writes);
       }
 
--- ---- what the record at i tells, as the code takes it apart
-
-abbrev pub slot-at : List ℕ → ℕ → ℕ
-slot-at told i = (getD told i 0 - 1) / 512 % 512
-
-abbrev pub cell-at : List ℕ → ℕ → ℕ
-cell-at told i = (getD told i 0 - 1) % 256
-
-abbrev pub mark-at : List ℕ → ℕ → ℕ
-mark-at told i = (getD told i 0 - 1) / 256 % 2
+-- ---- the pass
 
 -- the place of its job, and what its cell has seen
 abbrev pub place-at : List ℕ → List ℕ → ℕ → ℕ
@@ -282,18 +254,6 @@ place-at placed told i = getD placed (slot-at told i) 0
 abbrev pub seen-at : List ℕ → List ℕ → ℕ → ℕ
 seen-at seen told i = getD seen (cell-at told i) 0
 
-pub record Apart (x i : ℕ) (k : Kind) (c : ℕ) : Type 0 where
-  pub slot : (x - 1) / 512 % 512 ≡ i
-  pub cell : (x - 1) % 256 ≡ c
-  pub kind : (x - 1) / 256 % 2 ≡ kind-mark k
-  pub told : x ≡ 0 → ⊥
-
-pub apart : (x i : ℕ) (k : Kind) (c : ℕ) → x ≡ packed-step i k c → i < 512 → c < 256 → Apart x i k c
-apart x i read c e p q = record { slot = omega arith; cell = omega arith; kind = omega arith; told = λ z. omega arith }
-apart x i write c e p q = record { slot = omega arith; cell = omega arith; kind = omega arith; told = λ z. omega arith }
-
--- ---- the pass
-
 -- what the pass is given: the lists tell of a history, and the order names each of its kept jobs once
 pub record Given (h : History) (n : ℕ) (numbers states told placed order : List ℕ) (count : ℕ) : Type 0 where
   pub taken : Taken h n numbers states told count
@@ -301,53 +261,15 @@ pub record Given (h : History) (n : ℕ) (numbers states told placed order : Lis
   pub good : first-bad (kept h) [] 0 order ≡ Option.none
   pub whole : missing (kept h) order ≡ false
 
--- the steps of jobs that are not abandoned
-abbrev pub keeps : History → List Step → List Step
-keeps h s = only (λ x. not (has (abandoned h) (x .job))) s
+-- no pair is turned round among the steps so far: what is left to find is to be found among the later ones, and the tallies tell of the earlier ones
+pub record Unturned (h : History) (order reads writes : List ℕ) (done later : List Step) : Type 0 where
+  pub earlier : List Step
+  pub same : first-backward order [] (kept-steps h) ≡ first-backward order earlier later
+  pub tallied : Tallied order earlier reads writes
+  pub named : (a : Step) → a ∈ earlier → a .job ∈ order
 
--- after i records: the rest of the history, and the kept steps so far, among which no pair is turned round
-pub record At (h : History) (n : ℕ) (told order : List ℕ) (i : ℕ) (reads writes : List ℕ) (rest : History) (earlier : List Step) : Type 0 where
-  left : i + length rest ≡ n
-  tells : Told (opened h) told i rest
-  same : first-backward order [] (kept-steps h) ≡ first-backward order earlier (keeps h (steps-from i rest))
-  tallied : Tallied order earlier reads writes
-  named : (a : Step) → a ∈ earlier → a .job ∈ order
-
-pub data Passed (h : History) (n : ℕ) (told order : List ℕ) (i : ℕ) (reads writes : List ℕ) : Type 0 where
-  passed : {rest : History} {earlier : List Step} → At h n told order i reads writes rest earlier → Passed h n told order i reads writes
-
--- at record i is the kept step b
-pub record Meets (h : History) (n : ℕ) (told placed order : List ℕ) (i : ℕ) (reads writes : List ℕ) : Type 0 where
-  b : Step
-  rest : History
-  earlier : List Step
-  at : b .at ≡ i
-  left : suc i + length rest ≡ n
-  tells : Told (opened h) told (suc i) rest
-  same : first-backward order [] (kept-steps h) ≡ first-backward order earlier (b ∷ keeps h (steps-from (suc i) rest))
-  tallied : Tallied order earlier reads writes
-  named : (a : Step) → a ∈ earlier → a .job ∈ order
-  b-named : b .job ∈ order
-  real : b .cell < 256
-  cell : cell-at told i ≡ b .cell
-  kind : mark-at told i ≡ kind-mark (b .kind)
-  place : place-at placed told i ≡ place-in order (b .job)
-
--- the record at i, which is told
-pub data Record (jobs told : List ℕ) (i : ℕ) : History → Type 0 where
-  no-step : {e : Event} {rest : History} → step-by i e ≡ [] → getD told i 0 ≡ 0 → Told jobs told (suc i) rest → Record jobs told i (e ∷ rest)
-  a-step : {k : Kind} {slot j c : ℕ} {rest : History} → slot < length jobs → getD jobs slot 0 ≡ j → c < 256 → getD told i 0 ≡ packed-step slot k c → Told jobs told (suc i) rest
-      → Record jobs told i (steps k j c ∷ rest)
-
-pub at-record : (jobs told : List ℕ) (i n : ℕ) (g : History) → i + length g ≡ n → i < n → Told jobs told i g → Record jobs told i g
-at-record jobs told i n [] e q t = absurd (omega arith)
-at-record jobs told i n (opens j ∷ g) e q t = no-step refl (t .0) (t .1)
-at-record jobs told i n (steps k j c ∷ g) e q t = a-step (t .0 .1) (t .0 .2) (t .0 .3) (t .0 .4) (t .1)
-at-record jobs told i n (ends j ∷ g) e q t = no-step refl (t .0) (t .1)
-at-record jobs told i n (abandons j ∷ g) e q t = no-step refl (t .0) (t .1)
-
-one-on-passed : (h : History) (n : ℕ) (told order : List ℕ) (i : ℕ) {reads writes : List ℕ} → Passed h n told order (suc i) reads writes → Passed h n told order (i + 1) reads writes
-one-on-passed h n told order i {reads} {writes} p = subst (λ (k : ℕ). Passed h n told order k reads writes) (sym (add-one i)) p
+abbrev pub Passed : History → ℕ → List ℕ → List ℕ → ℕ → List ℕ → List ℕ → Type 0
+Passed h n told order i reads writes = Pass h n told i (Unturned h order reads writes)
 
 module _ {h : History} {n : ℕ} {numbers states told placed order : List ℕ} {count : ℕ} (s : Given h n numbers states told placed order count) where
   order-once : Once order
@@ -362,169 +284,89 @@ module _ {h : History} {n : ℕ} {numbers states told placed order : List ℕ} {
       ⊎-elim (λ f. f) (λ f. absurd (false-is (s .whole) (missing-test (kept h) order .shows f))) (answer (every-test (λ j. has-test order j) (kept h)))
 
   pub passed-start : Passed h n told order 0 (replicate 256 0) (replicate 256 0)
-  unfolding kept-steps all-steps
-  passed-start =
-      passed {rest = h} {earlier = []} (record {
-        left = let y = s .taken .at in omega arith;
-        tells = s .taken .steps-told;
-        same = refl;
-        tallied = tallied-start order;
-        named = λ a m. absurd (List·Memᴰ·not-nil m);
-      })
+  passed-start = pass-start (s .taken) (record { earlier = []; same = refl; tallied = tallied-start order; named = λ a m. absurd (List·Memᴰ·not-nil m) })
 
   -- all are passed
   pub passed-all : {i : ℕ} {reads writes : List ℕ} → Passed h n told order i reads writes → n ≤ i → first-backward order [] (kept-steps h) ≡ found-at n n
-  passed-all {i} (passed {rest = rest} {earlier = earlier} a) q = go rest (a .left) (a .same) ∙ sym (ap (λ (b : Bool). cond b (some n) Option.none) (test-false (lt-test n n) (λ y. omega arith)))
-    where
-      go : (g : History) → i + length g ≡ n → first-backward order [] (kept-steps h) ≡ first-backward order earlier (keeps h (steps-from i g))
-          → first-backward order [] (kept-steps h) ≡ Option.none
-      go [] l e = e
-      go (x ∷ g) l e = absurd (omega arith)
+  passed-all p q = pass-all (s .taken) p q .same ∙ sym (ap (λ (b : Bool). cond b (some n) Option.none) (test-false (lt-test n n) (λ y. omega arith)))
 
-  -- the state of a step's job, and its place
-  slot-state : {slot j : ℕ} → slot < length (opened h) → getD (opened h) slot 0 ≡ j → getD states slot 0 ≡ status h j
-  slot-state {slot} q e = s .taken .jobs .stated slot (let y = s .taken .jobs .many in omega arith) ∙ ap (status h) e
+  module _ {i : ℕ} {reads writes : List ℕ} (m : Meets h n told i (Unturned h order reads writes)) where
+    abbrev now : Unturned h order reads writes (m .done) (m .b ∷ m .later)
+    now = m .so-far
 
-  slot-place : {slot j : ℕ} → slot < length (opened h) → getD (opened h) slot 0 ≡ j → getD placed slot 0 ≡ place-in order j
-  slot-place {slot} q e = s .places slot (let y = s .taken .jobs .many in omega arith) ∙ ap (place-in order) e
+    -- the order names the step's job, and the table has its place
+    b-named : m .b .job ∈ order
+    b-named = order-names (m .b .job) (kept-if h (Memᴰ·cast (sym (m .mine)) (at-member (opened h) (slot-at told i) (m .known))) (m .stays))
 
-  slot-few : {slot : ℕ} → slot < length (opened h) → slot < 512
-  slot-few q = let y = s .taken .jobs .many in let z = s .taken .jobs .few in omega arith
+    its-place : place-at placed told i ≡ place-in order (m .b .job)
+    its-place = s .places (slot-at told i) (let x = m .known in let y = s .taken .jobs .many in omega arith) ∙ ap (place-in order) (m .mine)
 
-  module _ {i : ℕ} {reads writes : List ℕ} where
-    -- a record that is no step
-    none-go : {rest : History} {earlier : List Step} → At h n told order i reads writes rest earlier → Record (opened h) told i rest → getD told i 0 ≡ 0
-        → Passed h n told order (suc i) reads writes
-    none-go {earlier = earlier} a (no-step {e = e} {rest = rest} f z t) y =
-        passed {rest = rest} (record {
-          left = let l = a .left in omega arith;
-          tells = t;
-          same = a .same ∙ ap (λ (l : List Step). first-backward order earlier (keeps h (l ++ steps-from (suc i) rest))) f;
-          tallied = a .tallied;
-          named = a .named;
+    -- the tests of the code are those of the step
+    writes-is : seen-at writes told i ≡ highest order write (m .b .cell) (now .earlier)
+    writes-is = ap (λ (c : ℕ). getD writes c 0) (m .cell) ∙ now .tallied .of-writes (m .b .cell) (m .real)
+
+    reads-is : seen-at reads told i ≡ highest order read (m .b .cell) (now .earlier)
+    reads-is = ap (λ (c : ℕ). getD reads c 0) (m .cell) ∙ now .tallied .of-reads (m .b .cell) (m .real)
+
+    runs-backward : Decides (backward order (now .earlier) (m .b))
+        ((place-at placed told i < seen-at writes told i)
+        ⊎ ((mark-at told i ≡ 1) × (place-at placed told i < seen-at reads told i)))
+    runs-backward =
+        read-as (backward-when order-once (now .earlier) (m .b) (now .named) (b-named))
+        (⊎-elim (λ q. inl (let x = writes-is in let y = its-place in omega arith))
+        (λ q. inr (m .kind ∙ alters-mark (m .b .kind) (q .0), (let r : place-in order (m .b .job) < highest order read (m .b .cell) (now .earlier) = q .1 in let x = reads-is in let y = its-place in omega arith))))
+        (⊎-elim (λ q. inl (let x = writes-is in let y = its-place in omega arith))
+        (λ q. inr (mark-alters (m .b .kind) (sym (m .kind) ∙ q .0), (let r : place-at placed told i < seen-at reads told i = q .1 in let x = reads-is in let y = its-place in omega arith))))
+
+    found : (place-at placed told i < seen-at writes told i)
+        ⊎ ((mark-at told i ≡ 1) × (place-at placed told i < seen-at reads told i))
+        → first-backward order [] (kept-steps h) ≡ found-at i n
+    found q =
+        now .same ∙ ap (λ (x : Bool). cond x (some (m .b .at)) (first-backward order (m .b ∷ now .earlier) (m .later))) (test-true runs-backward q)
+        ∙ ap some (m .at) ∙ sym (ap (λ (x : Bool). cond x (some i) Option.none) (test-true (lt-test i n) (m .inside)))
+
+    -- a write stands higher
+    pub turned-write : place-at placed told i < seen-at writes told i → first-backward order [] (kept-steps h) ≡ found-at i n
+    turned-write q = found (inl q)
+
+    -- a read stands higher than a write
+    pub turned-read : mark-at told i ≡ 1 → place-at placed told i < seen-at reads told i
+        → first-backward order [] (kept-steps h) ≡ found-at i n
+    turned-read e q = found (inr (e, q))
+
+    -- the step is not turned round, and the tallies take it in
+    on : {reads′ writes′ : List ℕ} → seen-at writes told i ≤ place-at placed told i
+        → (mark-at told i ≡ 1 → seen-at reads told i ≤ place-at placed told i)
+        → Tallied order (m .b ∷ now .earlier) reads′ writes′ → Passed h n told order (i + 1) reads′ writes′
+    on w r t =
+        pass-on m (record {
+          earlier = m .b ∷ now .earlier;
+          same = now .same ∙ ap (λ (x : Bool). cond x (some (m .b .at)) (first-backward order (m .b ∷ now .earlier) (m .later)))
+              (test-false runs-backward (⊎-elim (λ q. omega arith) (λ q. let x = r (q .0) in let y = q .1 in omega arith)));
+          tallied = t;
+          named = each {P = λ (a : Step). a .job ∈ order} b-named (now .named);
         })
-    none-go a (a-step {k = k} {slot = slot} {c = c} q e r x t) y = absurd (apart (getD told i 0) slot k c x (slot-few q) r .told y)
 
-    pub passed-none : Passed h n told order i reads writes → i < n → getD told i 0 ≡ 0 → Passed h n told order (i + 1) reads writes
-    passed-none (passed {rest = rest} a) q z = one-on-passed h n told order i (none-go a (at-record (opened h) told i n rest (a .left) q (a .tells)) z)
+    pub passed-write : length writes ≡ 256 → seen-at writes told i ≤ place-at placed told i
+        → mark-at told i ≡ 1 → seen-at reads told i ≤ place-at placed told i
+        → Passed h n told order (i + 1) reads (set writes (cell-at told i) (place-at placed told i))
+    passed-write long w e r =
+        on w (λ x. r)
+        (rw (m .cell, its-place) (tallied-write (m .b) (now .tallied) (m .real) (sym (m .kind) ∙ e) long
+        (let x = writes-is in let y = its-place in let z = now .tallied .of-writes (m .b .cell) (m .real) in omega arith)))
 
-    -- a step of an abandoned job
-    gone-go : {rest : History} {earlier : List Step} → At h n told order i reads writes rest earlier → Record (opened h) told i rest → (getD told i 0 ≡ 0 → ⊥)
-        → getD states (slot-at told i) 0 ≡ 4 → Passed h n told order (suc i) reads writes
-    gone-go a (no-step f z t) y g = absurd (y z)
-    gone-go a (a-step {k = k} {slot = slot} {j = j} {c = c} {rest = rest} q e r x t) y g =
-        let p = apart (getD told i 0) slot k c x (slot-few q) r in
-        let gone : j ∈ abandoned h = status-gone h j .0 (sym (slot-state q e) ∙ ap (λ (m : ℕ). getD states m 0) (sym (p .slot)) ∙ g) in
-        passed {rest = rest} (record {
-          left = let l = a .left in omega arith;
-          tells = t;
-          same = a .same ∙ ap (first-backward order _)
-              (only-no (λ x. not (has (abandoned h) (x .job))) (record { at = i; kind = k; job = j; cell = c }) (steps-from (suc i) rest) (test-false (not-test (has-test (abandoned h) j)) (λ f. f gone)));
-          tallied = a .tallied;
-          named = a .named;
-        })
+    pub passed-read : length reads ≡ 256 → seen-at writes told i ≤ place-at placed told i
+        → (mark-at told i ≡ 1 → ⊥) → seen-at reads told i < place-at placed told i
+        → Passed h n told order (i + 1) (set reads (cell-at told i) (place-at placed told i)) writes
+    passed-read long w e r =
+        on w (λ x. absurd (e x))
+        (rw (m .cell, its-place) (tallied-read (m .b) (now .tallied) (m .real) (λ x. e (m .kind ∙ x)) long
+        (let x = reads-is in let y = its-place in let z = now .tallied .of-reads (m .b .cell) (m .real) in omega arith)))
 
-    pub passed-gone : Passed h n told order i reads writes → i < n → (getD told i 0 ≡ 0 → ⊥) → getD states (slot-at told i) 0 ≡ 4
+    pub passed-lower : seen-at writes told i ≤ place-at placed told i
+        → (mark-at told i ≡ 1 → ⊥) → place-at placed told i ≤ seen-at reads told i
         → Passed h n told order (i + 1) reads writes
-    passed-gone (passed {rest = rest} a) q z g = one-on-passed h n told order i (gone-go a (at-record (opened h) told i n rest (a .left) q (a .tells)) z g)
-
-    -- a step of a kept job
-    meets-go : {rest : History} {earlier : List Step} → At h n told order i reads writes rest earlier → Record (opened h) told i rest → (getD told i 0 ≡ 0 → ⊥)
-        → (getD states (slot-at told i) 0 ≡ 4 → ⊥) → Meets h n told placed order i reads writes
-    meets-go a (no-step f z t) y g = absurd (y z)
-    meets-go {earlier = earlier} a (a-step {k = k} {slot = slot} {j = j} {c = c} {rest = rest} q e r x t) y g =
-        let p = apart (getD told i 0) slot k c x (slot-few q) r in
-        let stays : j ∈ abandoned h → ⊥ = λ m. g (ap (λ (m : ℕ). getD states m 0) (p .slot) ∙ slot-state q e ∙ status-gone h j .1 m) in
-        record {
-          b = record { at = i; kind = k; job = j; cell = c };
-          rest = rest;
-          earlier = earlier;
-          at = refl;
-          left = let l = a .left in omega arith;
-          tells = t;
-          same = a .same ∙ ap (first-backward order earlier)
-              (only-yes (λ x. not (has (abandoned h) (x .job))) (record { at = i; kind = k; job = j; cell = c }) (steps-from (suc i) rest) (test-true (not-test (has-test (abandoned h) j)) stays));
-          tallied = a .tallied;
-          named = a .named;
-          b-named = order-names j (kept-if h (Memᴰ·cast (sym e) (at-member (opened h) slot q)) stays);
-          real = r;
-          cell = p .cell;
-          kind = p .kind;
-          place = ap (λ (m : ℕ). getD placed m 0) (p .slot) ∙ slot-place q e;
-        }
-
-    pub meets : Passed h n told order i reads writes → i < n → (getD told i 0 ≡ 0 → ⊥) → (getD states (slot-at told i) 0 ≡ 4 → ⊥)
-        → Meets h n told placed order i reads writes
-    meets (passed {rest = rest} a) q z g = meets-go a (at-record (opened h) told i n rest (a .left) q (a .tells)) z g
-
-    module _ (m : Meets h n told placed order i reads writes) where
-      -- the tests of the code are those of the step
-      writes-is : seen-at writes told i ≡ highest order write (m .b .cell) (m .earlier)
-      writes-is = ap (λ (c : ℕ). getD writes c 0) (m .cell) ∙ m .tallied .of-writes (m .b .cell) (m .real)
-
-      reads-is : seen-at reads told i ≡ highest order read (m .b .cell) (m .earlier)
-      reads-is = ap (λ (c : ℕ). getD reads c 0) (m .cell) ∙ m .tallied .of-reads (m .b .cell) (m .real)
-
-      runs-backward : Decides (backward order (m .earlier) (m .b))
-          ((place-at placed told i < seen-at writes told i)
-          ⊎ ((mark-at told i ≡ 1) × (place-at placed told i < seen-at reads told i)))
-      runs-backward =
-          read-as (backward-when order-once (m .earlier) (m .b) (m .named) (m .b-named))
-          (⊎-elim (λ q. inl (let x = writes-is in let y = m .place in omega arith))
-          (λ q. inr (m .kind ∙ alters-mark (m .b .kind) (q .0), (let r : place-in order (m .b .job) < highest order read (m .b .cell) (m .earlier) = q .1 in let x = reads-is in let y = m .place in omega arith))))
-          (⊎-elim (λ q. inl (let x = writes-is in let y = m .place in omega arith))
-          (λ q. inr (mark-alters (m .b .kind) (sym (m .kind) ∙ q .0), (let r : place-at placed told i < seen-at reads told i = q .1 in let x = reads-is in let y = m .place in omega arith))))
-
-      found : (place-at placed told i < seen-at writes told i)
-          ⊎ ((mark-at told i ≡ 1) × (place-at placed told i < seen-at reads told i))
-          → first-backward order [] (kept-steps h) ≡ found-at i n
-      found q =
-          m .same ∙ ap (λ (x : Bool). cond x (some (m .b .at)) (first-backward order (m .b ∷ m .earlier) (keeps h (steps-from (suc i) (m .rest))))) (test-true runs-backward q)
-          ∙ ap some (m .at) ∙ sym (ap (λ (x : Bool). cond x (some i) Option.none) (test-true (lt-test i n) (let y = m .left in omega arith)))
-
-      -- a write stands higher
-      pub turned-write : place-at placed told i < seen-at writes told i → first-backward order [] (kept-steps h) ≡ found-at i n
-      turned-write q = found (inl q)
-
-      -- a read stands higher than a write
-      pub turned-read : mark-at told i ≡ 1 → place-at placed told i < seen-at reads told i
-          → first-backward order [] (kept-steps h) ≡ found-at i n
-      turned-read e q = found (inr (e, q))
-
-      -- the step is not turned round, and the tallies take it in
-      on : {reads′ writes′ : List ℕ} → seen-at writes told i ≤ place-at placed told i
-          → (mark-at told i ≡ 1 → seen-at reads told i ≤ place-at placed told i)
-          → Tallied order (m .b ∷ m .earlier) reads′ writes′ → Passed h n told order (i + 1) reads′ writes′
-      on w r t =
-          one-on-passed h n told order i (passed {rest = m .rest} {earlier = m .b ∷ m .earlier} (record {
-            left = m .left;
-            tells = m .tells;
-            same = m .same ∙ ap (λ (x : Bool). cond x (some (m .b .at)) (first-backward order (m .b ∷ m .earlier) (keeps h (steps-from (suc i) (m .rest)))))
-                (test-false runs-backward (⊎-elim (λ q. omega arith) (λ q. let x = r (q .0) in let y = q .1 in omega arith)));
-            tallied = t;
-            named = each {P = λ (a : Step). a .job ∈ order} (m .b-named) (m .named);
-          }))
-
-      pub passed-write : length writes ≡ 256 → seen-at writes told i ≤ place-at placed told i
-          → mark-at told i ≡ 1 → seen-at reads told i ≤ place-at placed told i
-          → Passed h n told order (i + 1) reads (set writes (cell-at told i) (place-at placed told i))
-      passed-write long w e r =
-          on w (λ x. r)
-          (rw (m .cell, m .place) (tallied-write (m .b) (m .tallied) (m .real) (sym (m .kind) ∙ e) long
-          (let x = writes-is in let y = m .place in let z = m .tallied .of-writes (m .b .cell) (m .real) in omega arith)))
-
-      pub passed-read : length reads ≡ 256 → seen-at writes told i ≤ place-at placed told i
-          → (mark-at told i ≡ 1 → ⊥) → seen-at reads told i < place-at placed told i
-          → Passed h n told order (i + 1) (set reads (cell-at told i) (place-at placed told i)) writes
-      passed-read long w e r =
-          on w (λ x. absurd (e x))
-          (rw (m .cell, m .place) (tallied-read (m .b) (m .tallied) (m .real) (λ x. e (m .kind ∙ x)) long
-          (let x = reads-is in let y = m .place in let z = m .tallied .of-reads (m .b .cell) (m .real) in omega arith)))
-
-      pub passed-lower : seen-at writes told i ≤ place-at placed told i
-          → (mark-at told i ≡ 1 → ⊥) → place-at placed told i ≤ seen-at reads told i
-          → Passed h n told order (i + 1) reads writes
-      passed-lower w e r =
-          on w (λ x. absurd (e x))
-          (tallied-lower (m .b) (m .tallied) (m .real) (λ x. e (m .kind ∙ x))
-          (let x = reads-is in let y = m .place in let z = m .tallied .of-reads (m .b .cell) (m .real) in omega arith))
+    passed-lower w e r =
+        on w (λ x. absurd (e x))
+        (tallied-lower (m .b) (now .tallied) (m .real) (λ x. e (m .kind ∙ x))
+        (let x = reads-is in let y = its-place in let z = now .tallied .of-reads (m .b .cell) (m .real) in omega arith))

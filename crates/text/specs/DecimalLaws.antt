@@ -38,10 +38,6 @@ leading-more (suc n) h =
     ap (λ (b : Bool). cond b [] (leading-in n (suc n / 10) ++ glyph (suc n % 10) ∷ [])) (eqb·suc-zero n)
     ∙ ap (λ (x : List ℕ). x ++ glyph (suc n % 10) ∷ []) (enough n (suc n / 10) (suc n / 10) (omega arith) (le-refl (suc n / 10)))
 
-pub decimal-zero : decimal 0 ≡ 48 ∷ []
-unfolding decimal leading
-decimal-zero = refl
-
 -- a number that is not 0 is its leading digits
 pub decimal-leading : (n : ℕ) → 0 < n → decimal n ≡ leading n
 unfolding decimal

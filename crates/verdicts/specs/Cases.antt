@@ -108,7 +108,7 @@ abbrev pub log-b : List Request
 log-b = log-a ++ writes 5 3 ∷ []
 
 -- 1 precedes 2 by cell 5, at records 4 and 5, and 2 precedes 1 by cell 6, at 6 and 7; but 3 writes both cells over before 4 reads them. So nobody reads what 1 and 2
--- wrote, nor is it left: run one at a time in the order 1, 2, 3, 4 the jobs would leave what the log left (`same-anyway` of PairsOnly)
+-- wrote, nor is it left: run one at a time in the order 1, 2, 3, 4 the jobs would leave what the log left (`same-anyway` of the crate refuted)
 abbrev pub overwritten : List Request
 overwritten =
     opens 1 ∷ opens 2 ∷ opens 3 ∷ opens 4

@@ -5,5 +5,3 @@ pub mod LogLaws
 pub mod VerdictLaws
 pub mod SizeLaws
 pub mod Promises
-pub mod PairsOnly
-pub mod WrongVerdicts

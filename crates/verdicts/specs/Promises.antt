@@ -28,7 +28,7 @@ use Rattle.verdicts.specs.SizeLaws.{check-small, list-small, check-apart
 pub verdict-means : (bytes order : List ℕ) → Checked bytes order (check bytes order)
 verdict-means = check-right
 
--- and no other verdict means that: a checker that keeps this promise is `check` (WrongVerdicts has builds that do not)
+-- and no other verdict means that: a checker that keeps this promise is `check` (WrongVerdicts of the crate refuted has builds that do not)
 pub verdict-only : (bytes order : List ℕ) (v : Verdict) → Checked bytes order v → v ≡ check bytes order
 verdict-only bytes order v = checked-only bytes order
 

@@ -44,7 +44,9 @@ returns-granted c =
     let f = l .before .before in
     let g = f .before .before in
     let e = g .before .before in
-    does-end-granted (found e) (e .before .before .before .fits .free .fits) (g .leading .ensures) (f .fold-sets .ensures)
+    does-end-granted {h = state e} {j = e .before .before .before .args .job .0} {s = e .before .slot-for .result} {r = c .leave .result} (found e)
+    {from = g .leading .result} {leads₁ = l .fold-leads .last .1 .0} {sets₁ = f .fold-sets .last .0} {numbers = c .leave .last .1 .1 .0} {leads = c .leave .last .1 .1 .1 .0} {sets = c .leave .last .1 .1 .1 .1 .0}
+    (e .before .before .before .fits .free .fits) (g .leading .ensures) (f .fold-sets .ensures)
     (l .fold-leads .ensures) (c .leave .ensures)
 
 pub end-job-spec : {M : Type 1} → statement M

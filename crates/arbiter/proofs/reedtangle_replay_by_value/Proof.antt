@@ -10,11 +10,11 @@ use Rattle.arbiter.proofs.reedtangle_replay_by_value.Statement.{stateme
 use Rattle.arbiter.proofs.reedtangle_replay_by_value.Tie as tie
 
 abbrev Inv-loop : tie.InvT-loop
-Inv-loop first requests answers₀ written count state₀ i₀ answers state i =
+Inv-loop first requests answers₀ written whole state₀ i₀ answers state i =
     Replaying first requests answers₀ i (lent (state .next) (state .free) (state .numbers) (state .leads) (state .sets)) answers
 
 abbrev μ-loop : tie.MeasureT-loop
-μ-loop first requests answers₀ written count state₀ i₀ answers state i = count - i
+μ-loop first requests answers₀ written whole state₀ i₀ answers state i = whole - i
 
 returns-short : tie.Need-returns Inv-loop μ-loop
 returns-short c = let a = c .before .before .before .args in replay-short (a .first) (a .requests .now) (a .answers .now) refl (c .if1 .taken)

@@ -1,34 +1,18 @@
--- `arbiter::step_in_place` meets its contract: a law of RequestLaws for each arm, from what the function called there ensures. The bytes are below 256, so the
--- sums fit. Assumes nothing.
-use mathlib.Core.Path.{_≡_}
+-- `arbiter::step_in_place` meets its contract: a law of RequestLaws for each arm, from what the function called there ensures. Assumes nothing.
 use mathlib.Core.Bool.{true, false}
-use Prim.Native.Nat.{_+_, _*_}
 use borrow.Author.Needs.{needs}
 use Rattle.held.specs.Held.{Held}
-use Rattle.history.specs.Formats.{request-of}
 use Rattle.arbiter.specs.Lent.{lent}
-use Rattle.arbiter.proofs.RequestLaws.{cell-read, job-read, steps-byte, steps-kind, steps-open, steps-step, steps-end, steps-abandon}
+use Rattle.arbiter.proofs.RequestLaws.{steps-byte, steps-kind, steps-open, steps-step, steps-end, steps-abandon}
 use Rattle.arbiter.proofs.step_in_place.Statement.{statement}
 use Rattle.arbiter.proofs.step_in_place.Tie as tie
 
 -- where byte 1 was found to be 0, and the state at entry
-abbrev well : tie.After-wide6 → tie.Else1
-well c = c .before .before .before .before .before .before
+abbrev well : tie.After-job-in → tie.Else1
+well c = c .before .before
 
 abbrev held : tie.Else1 → Held
 held e = let a = e .before .args in lent (a .next) (a .free) (a .numbers .now) (a .leads .now) (a .sets .now)
-
--- what the wide bytes make
-cell : (c : tie.After-wide6)
-    → c .before .before .before .before .before .wide .result + c .before .before .before .before .wide2 .result * 256 ≡ request-of (well c .before .args .t6) .cell
-cell c = cell-read (well c .before .args .t6) (c .before .before .before .before .before .wide .ensures .0) (c .before .before .before .before .wide2 .ensures .0)
-
-job : (c : tie.After-wide6)
-    → c .before .before .before .wide3 .result + c .before .before .wide4 .result * 256 + c .before .wide5 .result * 65536 + c .wide6 .result * 16777216
-    ≡ request-of (well c .before .args .t6) .job
-job c =
-    job-read (well c .before .args .t6) (c .before .before .before .wide3 .ensures .0) (c .before .before .wide4 .ensures .0) (c .before .wide5 .ensures .0)
-    (c .wide6 .ensures .0)
 
 returns-byte : tie.Need-returns
 returns-byte c = steps-byte (c .before .before .args .t6) (c .before .if1 .taken) (c .refused .ensures)
@@ -43,25 +27,25 @@ returns-read : tie.Need-returns-3
 returns-read c =
     let m = c .before .before .before .before in
     let e = well (m .before) in
-    steps-step {h = held e} (e .before .args .t6) (e .if1 .left) false (m .match .keys2) (job (m .before)) (cell (m .before)) (c .step-job .ensures)
+    steps-step {h = held e} (e .before .args .t6) (e .if1 .left) false (m .match .keys2) (m .before .job-in .ensures) (m .before .before .cell-in .ensures) (c .step-job .ensures)
 
 returns-write : tie.Need-returns-4
 returns-write c =
     let m = c .before .before .before .before in
     let e = well (m .before) in
-    steps-step {h = held e} (e .before .args .t6) (e .if1 .left) true (m .match .keys3) (job (m .before)) (cell (m .before)) (c .step-job2 .ensures)
+    steps-step {h = held e} (e .before .args .t6) (e .if1 .left) true (m .match .keys3) (m .before .job-in .ensures) (m .before .before .cell-in .ensures) (c .step-job2 .ensures)
 
 returns-end : tie.Need-returns-5
 returns-end c =
     let m = c .before .before .before .before in
     let e = well (m .before) in
-    steps-end {h = held e} (e .before .args .t6) (e .if1 .left) (m .match .keys4) (job (m .before)) (c .end-job .ensures)
+    steps-end {h = held e} (e .before .args .t6) (e .if1 .left) (m .match .keys4) (m .before .job-in .ensures) (c .end-job .ensures)
 
 returns-abandon : tie.Need-returns-6
 returns-abandon c =
     let m = c .before .before .before .before in
     let e = well (m .before) in
-    steps-abandon {h = held e} (e .before .args .t6) (e .if1 .left) (m .match .keys5) (job (m .before)) (c .abandon-job .ensures)
+    steps-abandon {h = held e} (e .before .args .t6) (e .if1 .left) (m .match .keys5) (m .before .job-in .ensures) (c .abandon-job .ensures)
 
 returns-kind : tie.Need-returns-7
 returns-kind c =
@@ -71,8 +55,6 @@ returns-kind c =
 pub step-in-place-spec : {M : Type 1} → statement M
 step-in-place-spec =
     tie.close
-    (tie.spec (λ c. search needs) (λ c κs. search needs) returns-byte (λ c. search needs) (λ c. search needs) (λ c κs. search needs) (λ c. search needs)
-    (λ c κs. search needs) (λ c. search needs) (λ c. search needs) (λ c. search needs) (λ c κs. search needs) (λ c. search needs) (λ c κs. search needs)
-    (λ c. search needs) (λ c. search needs) (λ c. search needs) (λ c κs. search needs) (λ c. search needs) (λ c. search needs) (λ c. search needs)
-    (λ c κs. search needs) (λ c. search needs) (λ c. search needs) (λ c κs. search needs) (λ c κs. search needs) (λ c κs. search needs) (λ c κs. search needs)
-    (λ c κs. search needs) (λ c κs. search needs) returns-open returns-read returns-write returns-end returns-abandon returns-kind)
+    (tie.spec (λ c. search needs) (λ c κs. search needs) returns-byte (λ c. search needs) (λ c κs. search needs) (λ c κs. search needs) (λ c κs. search needs)
+    (λ c κs. search needs) (λ c κs. search needs) (λ c κs. search needs) (λ c κs. search needs) (λ c κs. search needs)
+    returns-open returns-read returns-write returns-end returns-abandon returns-kind)

@@ -4,7 +4,7 @@ use native.Mathlib.Omega.{arith}
 use borrow.Author.Needs.{needs}
 use Rattle.verdicts.specs.Verdicts.{Listed, list-order}
 use Rattle.verdicts.specs.SizeLaws.{list-small}
-use Rattle.orders.proofs.ListedLaws.{same-code, same-place, same-list}
+use Rattle.lists.proofs.ListedLaws.{same-code, same-place, same-list}
 use Rattle.orders.proofs.reedtangle_list_order.Statement.{statement}
 use Rattle.orders.proofs.reedtangle_list_order.Tie as tie
 

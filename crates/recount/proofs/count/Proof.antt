@@ -6,19 +6,19 @@ use Rattle.recount.proofs.count.Statement.{statement}
 use Rattle.recount.proofs.count.Tie as tie
 
 abbrev Inv-loop : tie.InvT-loop
-Inv-loop h n which sum₀ i₀ sum i = Unit {0}
+Inv-loop h n such sum₀ i₀ sum i = Unit {0}
 
 abbrev μ-loop : tie.MeasureT-loop
-μ-loop h n which sum₀ i₀ sum i = n - i
+μ-loop h n such sum₀ i₀ sum i = n - i
 
 loop-holds : tie.Need-loop-holds Inv-loop μ-loop
 loop-holds c = search needs
 
-at-requires : tie.Need-at-requires Inv-loop μ-loop
-at-requires c κs = search needs
-
 is-such-requires : tie.Need-is-such-requires Inv-loop μ-loop
 is-such-requires c κs = search needs
+
+cast-wrapping-add-u64 : tie.Need-cast-wrapping-add-u64 Inv-loop μ-loop
+cast-wrapping-add-u64 c = search needs
 
 wrapping-add-u64-requires : tie.Need-wrapping-add-u64-requires Inv-loop μ-loop
 wrapping-add-u64-requires c κs = search needs
@@ -42,8 +42,8 @@ count-spec =
     Inv-loop
     μ-loop
     loop-holds
-    at-requires
     is-such-requires
+    cast-wrapping-add-u64
     wrapping-add-u64-requires
     add-i
     loop-less

@@ -6,25 +6,19 @@ use Rattle.recount.proofs.fill.Statement.{statement}
 use Rattle.recount.proofs.fill.Tie as tie
 
 abbrev Inv-loop : tie.InvT-loop
-Inv-loop h₀ i₀ h i = Unit {0}
+Inv-loop list₀ first step count x₀ i₀ list x i = Unit {0}
 
 abbrev μ-loop : tie.MeasureT-loop
-μ-loop h₀ i₀ h i = 520 - i
+μ-loop list₀ first step count x₀ i₀ list x i = count - i
 
 loop-holds : tie.Need-loop-holds Inv-loop μ-loop
 loop-holds c = search needs
 
-mul-record : tie.Need-mul-record Inv-loop μ-loop
-mul-record c = search needs
+add-requires : tie.Need-add-requires Inv-loop μ-loop
+add-requires c κs = search needs
 
-add-record : tie.Need-add-record Inv-loop μ-loop
-add-record c = search needs
-
-record-requires : tie.Need-record-requires Inv-loop μ-loop
-record-requires c κs = search needs
-
-put-requires : tie.Need-put-requires Inv-loop μ-loop
-put-requires c κs = search needs
+wrapping-add-u64-requires : tie.Need-wrapping-add-u64-requires Inv-loop μ-loop
+wrapping-add-u64-requires c κs = search needs
 
 add-i : tie.Need-add-i Inv-loop μ-loop
 add-i c = search needs
@@ -45,10 +39,8 @@ fill-spec =
     Inv-loop
     μ-loop
     loop-holds
-    mul-record
-    add-record
-    record-requires
-    put-requires
+    add-requires
+    wrapping-add-u64-requires
     add-i
     loop-less
     loop-again

@@ -6,25 +6,19 @@ use Rattle.recount.proofs.meets.Statement.{statement}
 use Rattle.recount.proofs.meets.Tie as tie
 
 abbrev Inv-loop : tie.InvT-loop
-Inv-loop h marks b low high later a₀ a = Unit {0}
+Inv-loop w n later mark a₀ a = Unit {0}
 
 abbrev μ-loop : tie.MeasureT-loop
-μ-loop h marks b low high later a₀ a = b - a
-
-at-requires : tie.Need-at-requires Inv-loop μ-loop
-at-requires c κs = search needs
+μ-loop w n later mark a₀ a = n - a
 
 loop-holds : tie.Need-loop-holds Inv-loop μ-loop
 loop-holds c = search needs
 
-at-requires-2 : tie.Need-at-requires-2 Inv-loop μ-loop
-at-requires-2 c κs = search needs
+at-requires : tie.Need-at-requires Inv-loop μ-loop
+at-requires c κs = search needs
 
-at-requires-3 : tie.Need-at-requires-3 Inv-loop μ-loop
-at-requires-3 c κs = search needs
-
-clash-requires : tie.Need-clash-requires Inv-loop μ-loop
-clash-requires c κs = search needs
+conflict-requires : tie.Need-conflict-requires Inv-loop μ-loop
+conflict-requires c κs = search needs
 
 returns : tie.Need-returns Inv-loop μ-loop
 returns c = search needs
@@ -47,11 +41,9 @@ meets-spec =
     (tie.spec
     Inv-loop
     μ-loop
-    at-requires
     loop-holds
-    at-requires-2
-    at-requires-3
-    clash-requires
+    at-requires
+    conflict-requires
     returns
     add-a
     loop-less

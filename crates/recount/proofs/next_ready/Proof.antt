@@ -6,16 +6,19 @@ use Rattle.recount.proofs.next_ready.Statement.{statement}
 use Rattle.recount.proofs.next_ready.Tie as tie
 
 abbrev Inv-loop : tie.InvT-loop
-Inv-loop h n marks by-number i₀ i = Unit {0}
+Inv-loop w n i₀ i = Unit {0}
 
 abbrev μ-loop : tie.MeasureT-loop
-μ-loop h n marks by-number i₀ i = n - i
+μ-loop w n i₀ i = n - i
 
 loop-holds : tie.Need-loop-holds Inv-loop μ-loop
 loop-holds c = search needs
 
-is-ready-requires : tie.Need-is-ready-requires Inv-loop μ-loop
-is-ready-requires c κs = search needs
+at-requires : tie.Need-at-requires Inv-loop μ-loop
+at-requires c κs = search needs
+
+first-waiting-requires : tie.Need-first-waiting-requires Inv-loop μ-loop
+first-waiting-requires c κs = search needs
 
 returns : tie.Need-returns Inv-loop μ-loop
 returns c = search needs
@@ -39,7 +42,8 @@ next-ready-spec =
     Inv-loop
     μ-loop
     loop-holds
-    is-ready-requires
+    at-requires
+    first-waiting-requires
     returns
     add-i
     loop-less

@@ -6,25 +6,28 @@ use Rattle.recount.proofs.window.Statement.{statement}
 use Rattle.recount.proofs.window.Tie as tie
 
 abbrev Inv-loop : tie.InvT-loop
-Inv-loop shape seed h₀ counts₀ now₀ r₀ i₀ h counts now r i = Unit {0}
+Inv-loop h₀ k seed row r₀ i₀ h r i = Unit {0}
 
 abbrev μ-loop : tie.MeasureT-loop
-μ-loop shape seed h₀ counts₀ now₀ r₀ i₀ h counts now r i = 256 - i
+μ-loop h₀ k seed row r₀ i₀ h r i = 256 - i
+
+mul-row : tie.Need-mul-row Inv-loop μ-loop
+mul-row c = search needs
+
+add-row : tie.Need-add-row Inv-loop μ-loop
+add-row c = search needs
 
 first-number-requires : tie.Need-first-number-requires Inv-loop μ-loop
 first-number-requires c κs = search needs
 
-fresh-requires : tie.Need-fresh-requires Inv-loop μ-loop
-fresh-requires c κs = search needs
+begin-requires : tie.Need-begin-requires Inv-loop μ-loop
+begin-requires c κs = search needs
 
 loop-holds : tie.Need-loop-holds Inv-loop μ-loop
 loop-holds c = search needs
 
 shifted-requires : tie.Need-shifted-requires Inv-loop μ-loop
 shifted-requires c κs = search needs
-
-shifted-requires-2 : tie.Need-shifted-requires-2 Inv-loop μ-loop
-shifted-requires-2 c κs = search needs
 
 request-requires : tie.Need-request-requires Inv-loop μ-loop
 request-requires c κs = search needs
@@ -50,11 +53,12 @@ window-spec =
     (tie.spec
     Inv-loop
     μ-loop
+    mul-row
+    add-row
     first-number-requires
-    fresh-requires
+    begin-requires
     loop-holds
     shifted-requires
-    shifted-requires-2
     request-requires
     ask-requires
     add-i

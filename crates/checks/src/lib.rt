@@ -1,0 +1,503 @@
+// The reading of a log into a table of its jobs, and the checker of a proposed order.
+ghost use mathlib.Core.Path.{_≡_};
+ghost use mathlib.Core.Bool.{false, cond};
+ghost use mathlib.Core.Option.{none};
+ghost use mathlib.Core.List.{List, []};
+ghost use Prim.Native.Nat.{ℕ, _≤_, _<_};
+ghost use lib.Dec.{leb};
+ghost use lib.ListN.{length, replicate};
+ghost use Rattle.history.specs.Events.{History, kept, kept-steps};
+ghost use Rattle.verdicts.specs.Verdicts.{first-bad, missing, first-backward, check};
+ghost use Rattle.tallies.specs.Jobs.{Padded, Rises, Finds, Jobs, Blank, Taken, Takes};
+ghost use Rattle.tallies.specs.Places.{Placed, found-at};
+ghost use Rattle.checks.specs.Checks.{numbered, request, Reads, Cleared, kept-as};
+use reader::Next;
+use reader::Record;
+
+// What the checker answers: the count of kept jobs, or one of the refusals with its place.
+pub enum Checked {
+    Accepted(usize),
+    Length,
+    Form(usize),
+    Turn(usize),
+    TooMany(usize),
+    Entry(usize),
+    Backward(usize),
+}
+
+impl Checked {
+    // Document 01's code.
+    pub fn code(self) -> u32
+        ensures { λ r. ⌜ r ≡ numbered self .code ⌝ }
+    {
+        match self {
+            Checked::Accepted(_) => 0,
+            Checked::Length => 11,
+            Checked::Form(_) => 12,
+            Checked::Turn(_) => 13,
+            Checked::TooMany(_) => 14,
+            Checked::Entry(_) => 15,
+            Checked::Backward(_) => 16,
+        }
+    }
+
+    // The place that goes with it; of an accepted order, the count of kept jobs.
+    pub fn place(self) -> usize
+        ensures { λ r. ⌜ r ≡ numbered self .place ⌝ }
+    {
+        match self {
+            Checked::Accepted(n) => n,
+            Checked::Length => 0,
+            Checked::Form(p) => p,
+            Checked::Turn(p) => p,
+            Checked::TooMany(p) => p,
+            Checked::Entry(p) => p,
+            Checked::Backward(p) => p,
+        }
+    }
+}
+
+// ---- the jobs of a log
+
+// How far a search goes up: `half` where the number is at most the job's, and else not at all. The quotient is 1 or 0: of a test the compiler makes a branch,
+// which is mispredicted every other time.
+fn go_up(half: usize, number: u32, job: u32) -> usize
+    ensures { λ r. ⌜ (r ≤ half) × (r ≡ cond (leb number job) half 0) ⌝ }
+{
+    half * ((4294967296 + job as usize - number as usize) / 4294967296)
+}
+
+// Where the job stands among the first `count` numbers, which rise; `count` where it does not.
+fn halve(numbers: &[u32; 512], count: usize, job: u32) -> usize
+    requires { ⌜ count ≤ 512 ⌝ }
+    ensures { λ r. ⌜ (r ≤ count) × (Rises count (now (numbers .entry)) → Finds count (now (numbers .entry)) job r) ⌝ }
+{
+    let all = &numbers[..];
+    let mut low: usize = 0;
+    let mut size: usize = count;
+    while 1 < size {
+        let half = size / 2;
+        low += go_up(half, all[low + half], job);
+        size -= half;
+    }
+    if low < count {
+        if all[low] == job {
+            return low;
+        }
+    }
+    count
+}
+
+// The same. The numbers of a log that starts at a fresh state stand side by side, and then the place is a difference.
+fn find(numbers: &[u32; 512], count: usize, job: u32) -> usize
+    requires { ⌜ count ≤ 512 ⌝ }
+    ensures { λ r. ⌜ (r ≤ count) × (Rises count (now (numbers .entry)) → Finds count (now (numbers .entry)) job r) ⌝ }
+{
+    let all = &numbers[..];
+    let first = all[0];
+    if first <= job {
+        let guess = (job - first) as usize;
+        if guess < count {
+            if all[guess] == job {
+                return guess;
+            }
+        }
+    }
+    halve(numbers, count, job)
+}
+
+// What an open leaves: its fault, and how many jobs there are then.
+struct Took {
+    code: u32,
+    count: usize,
+}
+
+fn take_open(
+    job: u32,
+    cell: u32,
+    numbers: &mut [u32; 512],
+    states: &mut [u8; 512],
+    count: usize,
+) -> Took
+    requires { ⌜ count ≤ 512 ⌝ }
+    ensures { λ r. ⌜ (r .count ≤ 512) × ((h : History) (n : ℕ) (told : List ℕ) → Taken h n (now (numbers .entry)) (now (states .entry)) told count
+        → Takes h n (request 1 0 cell job) (r .code) (now (numbers .exit)) (now (states .exit)) told (r .count)) ⌝ }
+{
+    let all = &mut numbers[..];
+    let stand = &mut states[..];
+    if cell != 0 {
+        return Took {
+            code: 12,
+            count: count,
+        };
+    }
+    if count != 0 {
+        if job <= all[count - 1] {
+            return Took {
+                code: 13,
+                count: count,
+            };
+        }
+    }
+    if 512 <= count {
+        return Took {
+            code: 14,
+            count: count,
+        };
+    }
+    all[count] = job;
+    stand[count] = 1;
+    Took {
+        code: 0,
+        count: count + 1,
+    }
+}
+
+// A read or a write: its fault.
+fn take_step(
+    write: bool,
+    job: u32,
+    cell: u32,
+    numbers: &[u32; 512],
+    states: &mut [u8; 512],
+    told: &mut [u32; 4096],
+    count: usize,
+    place: usize,
+) -> u32
+    requires { ⌜ (count ≤ 512) × (place < 4096) ⌝ }
+    ensures { λ r. ⌜ ((h : History) → Taken h place (now (numbers .entry)) (now (states .entry)) (now (told .entry)) count
+        → Takes h place (request (cond write 3 2) 0 cell job) r (now (numbers .entry)) (now (states .exit)) (now (told .exit)) count) ⌝ }
+{
+    let stand = &mut states[..];
+    let steps = &mut told[..];
+    if 256 <= cell {
+        return 12;
+    }
+    let i = find(numbers, count, job);
+    if i == count {
+        return 13;
+    }
+    if 2 < stand[i] {
+        return 13;
+    }
+    let mut step = (i as u32) * 512 + cell + 1;
+    if write {
+        stand[i] = 2;
+        step += 256;
+    }
+    steps[place] = step;
+    0
+}
+
+// An end: its fault.
+fn take_end(job: u32, cell: u32, numbers: &[u32; 512], states: &mut [u8; 512], count: usize) -> u32
+    requires { ⌜ count ≤ 512 ⌝ }
+    ensures { λ r. ⌜ ((h : History) (n : ℕ) (told : List ℕ) → Taken h n (now (numbers .entry)) (now (states .entry)) told count
+        → Takes h n (request 4 0 cell job) r (now (numbers .entry)) (now (states .exit)) told count) ⌝ }
+{
+    let stand = &mut states[..];
+    if cell != 0 {
+        return 12;
+    }
+    let i = find(numbers, count, job);
+    if i == count {
+        return 13;
+    }
+    if 2 < stand[i] {
+        return 13;
+    }
+    stand[i] = 3;
+    0
+}
+
+// An abandon: its fault.
+fn take_abandon(
+    job: u32,
+    cell: u32,
+    numbers: &[u32; 512],
+    states: &mut [u8; 512],
+    count: usize,
+) -> u32
+    requires { ⌜ count ≤ 512 ⌝ }
+    ensures { λ r. ⌜ ((h : History) (n : ℕ) (told : List ℕ) → Taken h n (now (numbers .entry)) (now (states .entry)) told count
+        → Takes h n (request 5 0 cell job) r (now (numbers .entry)) (now (states .exit)) told count) ⌝ }
+{
+    let stand = &mut states[..];
+    if cell != 0 {
+        return 12;
+    }
+    let i = find(numbers, count, job);
+    if i == count {
+        return 13;
+    }
+    if stand[i] != 1 {
+        return 13;
+    }
+    stand[i] = 4;
+    0
+}
+
+// A record: its fault, and how many jobs there are then.
+fn take_record(
+    r: Record,
+    numbers: &mut [u32; 512],
+    states: &mut [u8; 512],
+    told: &mut [u32; 4096],
+    count: usize,
+    place: usize,
+) -> Took
+    requires { ⌜ (count ≤ 512) × (place < 4096) ⌝ }
+    ensures { λ t. ⌜ (t .count ≤ 512) × ((h : History) → Taken h place (now (numbers .entry)) (now (states .entry)) (now (told .entry)) count
+        → Takes h place (request (r .kind) (r .byte1) (r .cell) (r .job)) (t .code) (now (numbers .exit)) (now (states .exit)) (now (told .exit)) (t .count)) ⌝ }
+{
+    if r.byte1 != 0 {
+        return Took {
+            code: 12,
+            count: count,
+        };
+    }
+    let kind = r.kind;
+    let job = r.job;
+    let cell = r.cell;
+    match kind {
+        1 => take_open(job, cell, numbers, states, count),
+        2 => Took {
+            code: take_step(false, job, cell, numbers, states, told, count, place),
+            count: count,
+        },
+        3 => Took {
+            code: take_step(true, job, cell, numbers, states, told, count, place),
+            count: count,
+        },
+        4 => Took {
+            code: take_end(job, cell, numbers, states, count),
+            count: count,
+        },
+        5 => Took {
+            code: take_abandon(job, cell, numbers, states, count),
+            count: count,
+        },
+        _ => Took {
+            code: 12,
+            count: count,
+        },
+    }
+}
+
+// What reading a log gives: the lowest fault, its code and place, or the count of jobs.
+pub enum Read {
+    Fault(u32, usize),
+    Jobs(usize),
+}
+
+// Every entry becomes 0.
+fn blank(numbers: &mut [u32; 512], states: &mut [u8; 512], told: &mut [u32; 4096])
+    ensures { λ _. ⌜ (now (numbers .exit) ≡ replicate 512 0) × (now (states .exit) ≡ replicate 512 0) × (now (told .exit) ≡ replicate 4096 0) ⌝ }
+{
+    *numbers = [0; 512];
+    *states = [0; 512];
+    *told = [0; 4096];
+}
+
+// The records of a log, into lists that are blank.
+fn read_records(
+    log: &[u8],
+    numbers: &mut [u32; 512],
+    states: &mut [u8; 512],
+    told: &mut [u32; 4096],
+) -> Read
+    ensures { λ r. ⌜ (Padded (now (numbers .entry)) 512 0 → Padded (now (states .entry)) 512 0 → Padded (now (told .entry)) 4096 0
+        → Reads (now (log .entry)) r (now (numbers .exit)) (now (states .exit)) (now (told .exit))) ⌝ }
+{
+    if log.len() % 8 != 0 {
+        return Read::Fault(11, 0);
+    }
+    if 32768 < log.len() {
+        return Read::Fault(11, 0);
+    }
+    let n = log.len() / 8;
+    let mut count: usize = 0;
+    let mut i: usize = 0;
+    while i < n {
+        match reader::next_record(log, i) {
+            Next::Record(r) => {
+                let t = take_record(r, numbers, states, told, count, i);
+                if t.code != 0 {
+                    return Read::Fault(t.code, i);
+                }
+                count = t.count;
+            }
+            Next::End => {
+                return Read::Jobs(count);
+            }
+        }
+        i += 1;
+    }
+    Read::Jobs(count)
+}
+
+// A whole log, whatever the lists held: its jobs by number and state, and its steps told (`Taken`); past those, and where it is faulty, every entry is 0.
+pub fn read_jobs(
+    log: &[u8],
+    numbers: &mut [u32; 512],
+    states: &mut [u8; 512],
+    told: &mut [u32; 4096],
+) -> Read
+    ensures { λ r. ⌜ Reads (now (log .entry)) r (now (numbers .exit)) (now (states .exit)) (now (told .exit)) × Cleared r (now (numbers .exit)) (now (states .exit)) (now (told .exit)) ⌝ }
+{
+    blank(numbers, states, told);
+    match read_records(log, numbers, states, told) {
+        Read::Fault(code, place) => {
+            blank(numbers, states, told);
+            Read::Fault(code, place)
+        }
+        Read::Jobs(count) => Read::Jobs(count),
+    }
+}
+
+// ---- the order
+
+// The places of the order's jobs, up to the first bad entry: its place, or the order's length where none is bad.
+fn place_order(
+    order: &[u32],
+    numbers: &[u32; 512],
+    states: &[u8; 512],
+    count: usize,
+    placed: &mut [usize; 512],
+) -> usize
+    requires { ⌜ count ≤ 512 ⌝ }
+    ensures { λ r. ⌜ (r ≤ length (now (order .entry))) × ((h : History) → Jobs h (now (numbers .entry)) (now (states .entry)) count → Blank (now (placed .entry))
+        → (first-bad (kept h) [] 0 (now (order .entry)) ≡ found-at r (length (now (order .entry)))) × (r ≡ length (now (order .entry)) → Placed h count (now (order .entry)) (now (placed .exit)))) ⌝ }
+{
+    let stand = &states[..];
+    let places = &mut placed[..];
+    let mut i: usize = 0;
+    while i < order.len() {
+        let k = find(numbers, count, order[i]);
+        if k == count {
+            return i;
+        }
+        if stand[k] == 4 {
+            return i;
+        }
+        if places[k] != 0 {
+            return i;
+        }
+        places[k] = i + 1;
+        i += 1;
+    }
+    i
+}
+
+// Is every kept job placed, and how many are they?
+pub enum Kept {
+    Missing,
+    All(usize),
+}
+
+// No more than a table has.
+fn within(count: usize) -> usize
+    ensures { λ r. ⌜ (r ≤ 512) × (r ≡ cond (leb count 512) count 512) ⌝ }
+{
+    if count <= 512 {
+        return count;
+    }
+    512
+}
+
+// The same of the first `count` jobs of a table, of all 512 where `count` is more.
+pub fn all_placed(states: &[u8; 512], placed: &[usize; 512], count: usize) -> Kept
+    ensures { λ r. ⌜ r ≡ kept-as (now (states .entry)) (now (placed .entry)) count ⌝ }
+{
+    let stand = &states[..];
+    let places = &placed[..];
+    let jobs = within(count);
+    let mut kept: usize = 0;
+    let mut i: usize = 0;
+    while i < jobs {
+        if stand[i] != 4 {
+            if places[i] == 0 {
+                return Kept::Missing;
+            }
+            kept += 1;
+        }
+        i += 1;
+    }
+    Kept::All(kept)
+}
+
+// ---- pairs that run backward
+
+// The lowest record, of the first n, that is the later one of such a pair, or n.
+fn first_turned(told: &[u32; 4096], n: usize, states: &[u8; 512], placed: &[usize; 512]) -> usize
+    requires { ⌜ n ≤ 4096 ⌝ }
+    ensures { λ r. ⌜ ((h : History) (numbers order : List ℕ) (count : ℕ) → Taken h n numbers (now (states .entry)) (now (told .entry)) count → Placed h count order (now (placed .entry))
+        → first-bad (kept h) [] 0 order ≡ none → missing (kept h) order ≡ false → first-backward order [] (kept-steps h) ≡ found-at r n) ⌝ }
+{
+    let steps = &told[..];
+    let stand = &states[..];
+    let places = &placed[..];
+    let mut reads: [usize; 256] = [0; 256];
+    let mut writes: [usize; 256] = [0; 256];
+    let mut i: usize = 0;
+    while i < n {
+        let step = steps[i];
+        if step != 0 {
+            let job = ((step - 1) / 512 % 512) as usize;
+            let cell = ((step - 1) % 256) as usize;
+            let place = places[job];
+            if stand[job] != 4 {
+                if place < writes[cell] {
+                    return i;
+                }
+                if (step - 1) / 256 % 2 == 1 {
+                    if place < reads[cell] {
+                        return i;
+                    }
+                    writes[cell] = place;
+                } else {
+                    if reads[cell] < place {
+                        reads[cell] = place;
+                    }
+                }
+            }
+        }
+        i += 1;
+    }
+    n
+}
+
+// The verdict on a log and an order.
+pub fn check_order(log: &[u8], order: &[u32]) -> Checked
+    ensures { λ r. ⌜ numbered r ≡ check (now (log .entry)) (now (order .entry)) ⌝ }
+{
+    let mut numbers: [u32; 512] = [0; 512];
+    let mut states: [u8; 512] = [0; 512];
+    let mut told: [u32; 4096] = [0; 4096];
+    match read_jobs(log, &mut numbers, &mut states, &mut told) {
+        Read::Fault(code, place) => match code {
+            11 => Checked::Length,
+            12 => Checked::Form(place),
+            13 => Checked::Turn(place),
+            _ => Checked::TooMany(place),
+        },
+        Read::Jobs(count) => {
+            let mut placed: [usize; 512] = [0; 512];
+            let bad = place_order(order, &numbers, &states, count, &mut placed);
+            if bad < order.len() {
+                return Checked::Entry(bad);
+            }
+            match all_placed(&states, &placed, count) {
+                Kept::Missing => Checked::Entry(order.len()),
+                Kept::All(kept) => {
+                    let n = log.len() / 8;
+                    let turned = first_turned(&told, n, &states, &placed);
+                    if turned < n {
+                        return Checked::Backward(turned);
+                    }
+                    Checked::Accepted(kept)
+                }
+            }
+        }
+    }
+}

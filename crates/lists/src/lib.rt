@@ -1,0 +1,346 @@
+// The lister of an order.
+ghost use mathlib.Core.Path.{_≡_};
+ghost use mathlib.Core.Bool.{true};
+ghost use mathlib.Core.List.{List, [], _++_};
+ghost use Prim.Native.Nat.{ℕ, _+_, _*_, _≤_, _<_};
+ghost use lib.ListN.{length, getD, set, take, drop};
+ghost use Rattle.history.specs.Events.{History, kept};
+ghost use Rattle.verdicts.specs.Verdicts.{list-order};
+ghost use Rattle.tallies.specs.Jobs.{Jobs, Blank, Taken};
+ghost use Rattle.tallies.specs.Places.{Lists};
+ghost use Rattle.tallies.specs.Marks.{mark, Put, Struck, Joined, LowestMark, Common, Preceded, KeptMarks, Settled, Only, In-word, Sorted};
+ghost use Rattle.lists.specs.Answers.{answered};
+use checks::Kept;
+use checks::Read;
+
+// ---- marks of jobs, 512 in eight words, and rows of them
+
+// The mark is put.
+fn put_mark(words: &mut [u64], at: usize)
+    requires { ⌜ at < 64 * length (now words) ⌝ }
+    ensures { λ _. ⌜ (length (now (words .exit)) ≡ length (now (words .entry))) × Put at (now (words .entry)) (now (words .exit)) ⌝ }
+{
+    words[at / 64] |= 1u64 << (at % 64);
+}
+
+// The mark is struck.
+fn strike_mark(words: &mut [u64], at: usize)
+    requires { ⌜ at < 64 * length (now words) ⌝ }
+    ensures { λ _. ⌜ (length (now (words .exit)) ≡ length (now (words .entry))) × Struck at (now (words .entry)) (now (words .exit)) ⌝ }
+{
+    words[at / 64] &= !(1u64 << (at % 64));
+}
+
+// A row of `words` gains what a row of `others` has.
+fn join(words: &mut [u64; 4096], row: usize, others: &[u64; 2048], other: usize)
+    requires { ⌜ (row < 512) × (other < 256) ⌝ }
+    ensures { λ _. ⌜ Joined row other (now (others .entry)) (now (words .entry)) (now (words .exit)) ⌝ }
+{
+    let all = &mut words[..];
+    let theirs = &others[..];
+    let to = row * 8;
+    let from = other * 8;
+    let mut w: usize = 0;
+    while w < 8 {
+        all[to + w] |= theirs[from + w];
+        w += 1;
+    }
+}
+
+// The lowest mark, or 512.
+fn lowest_mark(words: &[u64; 8]) -> usize
+    ensures { λ r. ⌜ (r ≤ 512) × LowestMark (now (words .entry)) r ⌝ }
+{
+    let all = &words[..];
+    let mut w: usize = 0;
+    while w < 8 {
+        let word = all[w];
+        if word != 0 {
+            return w * 64 + u64::trailing_zeros(word) as usize;
+        }
+        w += 1;
+    }
+    512
+}
+
+// A mark that the row of `rows` and the set have both, or 512.
+fn common_mark(rows: &[u64; 4096], row: usize, words: &[u64; 8]) -> usize
+    requires { ⌜ row < 512 ⌝ }
+    ensures { λ r. ⌜ (r ≤ 512) × Common (now (rows .entry)) row (now (words .entry)) r ⌝ }
+{
+    let all = &words[..];
+    let theirs = &rows[..];
+    let from = row * 8;
+    let mut w: usize = 8;
+    while 0 < w {
+        w -= 1;
+        let both = theirs[from + w] & all[w];
+        if both != 0 {
+            return w * 64 + u64::trailing_zeros(both) as usize;
+        }
+    }
+    512
+}
+
+// ---- who precedes whom
+
+// The predecessors of each job, from the first n records.
+fn gather(told: &[u32; 4096], n: usize, states: &[u8; 512], preds: &mut [u64; 4096])
+    requires { ⌜ n ≤ 4096 ⌝ }
+    ensures { λ _. ⌜ ((h : History) (numbers : List ℕ) (count : ℕ) → Taken h n numbers (now (states .entry)) (now (told .entry)) count → Blank (now (preds .entry)) → Preceded h count (now (preds .exit))) ⌝ }
+{
+    let steps = &told[..];
+    let stand = &states[..];
+    let mut readers: [u64; 2048] = [0; 2048];
+    let mut writers: [u64; 2048] = [0; 2048];
+    let mut i: usize = 0;
+    while i < n {
+        let step = steps[i];
+        if step != 0 {
+            let job = ((step - 1) / 512 % 512) as usize;
+            let cell = ((step - 1) % 256) as usize;
+            if stand[job] != 4 {
+                join(preds, job, &writers, cell);
+                if (step - 1) / 256 % 2 == 1 {
+                    join(preds, job, &readers, cell);
+                    put_mark(&mut writers, cell * 512 + job);
+                } else {
+                    put_mark(&mut readers, cell * 512 + job);
+                }
+                strike_mark(preds, job * 512 + job);
+            }
+        }
+        i += 1;
+    }
+}
+
+// The marks of the kept jobs, and how many they are.
+fn keep(states: &[u8; 512], count: usize, left: &mut [u64; 8]) -> usize
+    requires { ⌜ count ≤ 512 ⌝ }
+    ensures { λ r. ⌜ (r ≤ 512) × ((h : History) (numbers : List ℕ) → Jobs h numbers (now (states .entry)) count → Blank (now (left .entry)) → (r ≡ length (kept h)) × KeptMarks h count (now (left .exit))) ⌝ }
+{
+    let stand = &states[..];
+    let mut kept: usize = 0;
+    let mut i: usize = 0;
+    while i < count {
+        if stand[i] != 4 {
+            put_mark(left, i);
+            kept += 1;
+        }
+        i += 1;
+    }
+    kept
+}
+
+// ---- the lowest-first order
+
+// A job that is left becomes ready, or waits for a predecessor that is left.
+fn settle(
+    preds: &[u64; 4096],
+    left: &[u64; 8],
+    ready: &mut [u64; 8],
+    waiting: &mut [u64; 4096],
+    job: usize,
+)
+    requires { ⌜ job < 512 ⌝ }
+    ensures { λ _. ⌜ Settled (Only job) (now (preds .entry)) (now (left .entry)) (now (ready .entry)) (now (waiting .entry)) (now (ready .exit)) (now (waiting .exit)) ⌝ }
+{
+    let for_whom = common_mark(preds, job, left);
+    if for_whom == 512 {
+        put_mark(ready, job);
+    } else {
+        put_mark(waiting, for_whom * 512 + job);
+    }
+}
+
+// The same of each job of a word of marks, the first of which is that of job `base`.
+fn settle_word(
+    preds: &[u64; 4096],
+    left: &[u64; 8],
+    ready: &mut [u64; 8],
+    waiting: &mut [u64; 4096],
+    word: u64,
+    base: usize,
+)
+    requires { ⌜ base + 64 ≤ 512 ⌝ }
+    ensures { λ _. ⌜ Settled (In-word base word) (now (preds .entry)) (now (left .entry)) (now (ready .entry)) (now (waiting .entry)) (now (ready .exit)) (now (waiting .exit)) ⌝ }
+{
+    let mut todo = word;
+    while todo != 0 {
+        let job = base + u64::trailing_zeros(todo) as usize;
+        todo &= todo - 1;
+        settle(preds, left, ready, waiting, job);
+    }
+}
+
+// The first sorting of the jobs that are left.
+fn sort(preds: &[u64; 4096], left: &[u64; 8], ready: &mut [u64; 8], waiting: &mut [u64; 4096])
+    ensures { λ _. ⌜ (Blank (now (ready .entry)) → Blank (now (waiting .entry)) → Sorted (now (preds .entry)) (now (left .entry)) (now (ready .exit)) (now (waiting .exit))) ⌝ }
+{
+    let all = &left[..];
+    let mut w: usize = 0;
+    while w < 8 {
+        settle_word(preds, left, ready, waiting, all[w], w * 64);
+        w += 1;
+    }
+}
+
+// A ready job is placed: it is no longer left, and those that waited for it become ready or wait for another.
+fn place_job(
+    preds: &[u64; 4096],
+    left: &mut [u64; 8],
+    ready: &mut [u64; 8],
+    waiting: &mut [u64; 4096],
+    job: usize,
+)
+    requires { ⌜ job < 512 ⌝ }
+    ensures { λ _. ⌜ (Sorted (now (preds .entry)) (now (left .entry)) (now (ready .entry)) (now (waiting .entry)) → mark (now (ready .entry)) job ≡ true
+        → Struck job (now (left .entry)) (now (left .exit)) × Sorted (now (preds .entry)) (now (left .exit)) (now (ready .exit)) (now (waiting .exit))) ⌝ }
+{
+    strike_mark(left, job);
+    strike_mark(ready, job);
+    let mut w: usize = 0;
+    while w < 8 {
+        let rows = &waiting[..];
+        let word = rows[job * 8 + w];
+        settle_word(preds, left, ready, waiting, word, w * 64);
+        w += 1;
+    }
+}
+
+// A job is the next of the order: its number, and its place, which counts from 1.
+fn note(
+    numbers: &[u32; 512],
+    order: &mut [u32; 512],
+    placed: &mut [usize; 512],
+    job: usize,
+    n: usize,
+)
+    requires { ⌜ (job < 512) × (n < 512) ⌝ }
+    ensures { λ _. ⌜ (length (now (order .entry)) ≡ 512) × (length (now (placed .entry)) ≡ 512) × (now (order .exit) ≡ set (now (order .entry)) n (getD (now (numbers .entry)) job 0))
+        × (now (placed .exit) ≡ set (now (placed .entry)) job (n + 1)) ⌝ }
+{
+    let all = &numbers[..];
+    let entries = &mut order[..];
+    let places = &mut placed[..];
+    entries[n] = all[job];
+    places[job] = n + 1;
+}
+
+// The order of so many jobs, the lowest ready one first, and the places of those that could be placed.
+fn list_jobs(
+    preds: &[u64; 4096],
+    numbers: &[u32; 512],
+    jobs: usize,
+    left: &mut [u64; 8],
+    order: &mut [u32; 512],
+    placed: &mut [usize; 512],
+)
+    requires { ⌜ jobs ≤ 512 ⌝ }
+    ensures { λ _. ⌜ ((h : History) (states : List ℕ) (count : ℕ) → Jobs h (now (numbers .entry)) states count → Preceded h count (now (preds .entry)) → KeptMarks h count (now (left .entry)) → jobs ≡ length (kept h)
+        → Blank (now (placed .entry)) → Lists h count (now (order .exit)) (now (placed .exit))) ⌝ }
+{
+    let mut ready: [u64; 8] = [0; 8];
+    let mut waiting: [u64; 4096] = [0; 4096];
+    sort(preds, left, &mut ready, &mut waiting);
+    let mut n: usize = 0;
+    while n < jobs {
+        let job = lowest_mark(&ready);
+        if job == 512 {
+            return;
+        }
+        note(numbers, order, placed, job, n);
+        place_job(preds, left, &mut ready, &mut waiting, job);
+        n += 1;
+    }
+}
+
+// What the lister answers: the count of kept jobs, or one of the refusals with its place.
+pub enum Listed {
+    Done(usize),
+    Length,
+    Form(usize),
+    Turn(usize),
+    TooMany(usize),
+    NoOrder,
+    Short(usize),
+}
+
+impl Listed {
+    // Document 01's code.
+    pub fn code(self) -> u32
+        ensures { λ r. ⌜ r ≡ answered self [] .code ⌝ }
+    {
+        match self {
+            Listed::Done(_) => 0,
+            Listed::Length => 11,
+            Listed::Form(_) => 12,
+            Listed::Turn(_) => 13,
+            Listed::TooMany(_) => 14,
+            Listed::NoOrder => 17,
+            Listed::Short(_) => 18,
+        }
+    }
+
+    // The place that goes with it; of an order, the count of kept jobs.
+    pub fn place(self) -> usize
+        ensures { λ r. ⌜ r ≡ answered self [] .place ⌝ }
+    {
+        match self {
+            Listed::Done(n) => n,
+            Listed::Length => 0,
+            Listed::Form(p) => p,
+            Listed::Turn(p) => p,
+            Listed::TooMany(p) => p,
+            Listed::NoOrder => 0,
+            Listed::Short(n) => n,
+        }
+    }
+}
+
+// The first n entries of the order go to the lent list; the entries past them stay.
+fn copy_out(order: &[u32; 512], n: usize, out: &mut [u32])
+    requires { ⌜ (n ≤ 512) × (n ≤ length (now out)) ⌝ }
+    ensures { λ _. ⌜ now (out .exit) ≡ take n (now (order .entry)) ++ drop n (now (out .entry)) ⌝ }
+{
+    let all = &order[..];
+    let mut i: usize = 0;
+    while i < n {
+        out[i] = all[i];
+        i += 1;
+    }
+}
+
+// The lowest-first order of a log, in the lent list. On a refusal the list stays.
+pub fn list_order(log: &[u8], out: &mut [u32]) -> Listed
+    ensures { λ r. ⌜ answered r (now (out .exit)) ≡ list-order (now (log .entry)) (now (out .entry)) ⌝ }
+{
+    let mut numbers: [u32; 512] = [0; 512];
+    let mut states: [u8; 512] = [0; 512];
+    let mut told: [u32; 4096] = [0; 4096];
+    match checks::read_jobs(log, &mut numbers, &mut states, &mut told) {
+        Read::Fault(code, place) => match code {
+            11 => Listed::Length,
+            12 => Listed::Form(place),
+            13 => Listed::Turn(place),
+            _ => Listed::TooMany(place),
+        },
+        Read::Jobs(count) => {
+            let mut left: [u64; 8] = [0; 8];
+            let kept = keep(&states, count, &mut left);
+            if out.len() < kept {
+                return Listed::Short(kept);
+            }
+            let mut preds: [u64; 4096] = [0; 4096];
+            gather(&told, log.len() / 8, &states, &mut preds);
+            let mut order: [u32; 512] = [0; 512];
+            let mut placed: [usize; 512] = [0; 512];
+            list_jobs(&preds, &numbers, kept, &mut left, &mut order, &mut placed);
+            if let Kept::Missing = checks::all_placed(&states, &placed, count) {
+                return Listed::NoOrder;
+            }
+            copy_out(&order, kept, out);
+            Listed::Done(kept)
+        }
+    }
+}

@@ -1,0 +1,2 @@
+pub mod PairsOnly
+pub mod WrongVerdicts
