@@ -29,9 +29,10 @@ class Whole:
     """Answers from the whole kept history."""
 
     def __init__(self, first):
-        self.next, self.opened, self.gone = first, set(), set()
+        self.next, self.opened, self.gone = first, [], set()
         self.steps = []  # (job, cell, is a write), every granted step
-        self.later = {}  # job: the jobs that it precedes
+        self.later = {}  # job: the jobs that it precedes by a conflict
+        self.ended = {}  # job: how many jobs had been opened when it ended; it precedes those that were opened after
 
     def precede(self, job, cell, write):
         """The kept jobs with a step that this one would conflict with."""
@@ -39,9 +40,15 @@ class Whole:
 
     def circle(self, job, before):
         """Is one of the jobs `before` reached from the job along precedences?"""
-        seen, todo = set(), [job]
+        seen, todo, opened = set(), [job], len(self.opened)
         while todo:
-            for j in self.later.get(todo.pop(), ()):
+            i = todo.pop()
+            follow = list(self.later.get(i, ()))
+            if self.ended.get(i, opened) < opened:
+                # those opened after its end, but for the ones that are in already; an abandoned one among them leads to none
+                follow += self.opened[self.ended[i] : opened]
+                opened = self.ended[i]
+            for j in follow:
                 if j not in seen:
                     seen.add(j)
                     todo.append(j)
@@ -57,7 +64,7 @@ class Whole:
             if len(self.opened) - len(self.gone) == 32:
                 return 5, 0
             self.next += 1
-            self.opened.add(self.next - 1)
+            self.opened.append(self.next - 1)
             return 0, self.next - 1
         if kind in (READ, WRITE) and cell > 255:
             return 2, 0
@@ -77,6 +84,8 @@ class Whole:
             self.later.pop(job, None)
             for js in self.later.values():
                 js.discard(job)
+        if kind == END:
+            self.ended[job] = len(self.opened)
         if kind in (END, ABANDON):
             self.gone.add(job)
         return 0, job

@@ -6,8 +6,9 @@
  *     cc -std=c11 -I bindings host.c target/staticlib/libarbiter.a target/staticlib/liborders.a -o host
  *
  * Two steps (reads and writes) conflict when their jobs differ, their cell is the same, and they are not both reads. A job is kept unless it
- * was abandoned. An order of the kept jobs would do when any two conflicting steps come in it as they came in the log. So the words are used
- * below; there may be an order with the same reads and ends that turns a conflicting pair round, and it is not looked for.
+ * was abandoned. An order of the kept jobs would do when any two conflicting steps come in it as they came in the log, and each job comes in it
+ * before all that were opened after its end. So the words are used below; there may be an order with the same reads and cells in the end that
+ * turns such a pair round, and it is not looked for.
  *
  * What holds for all six:
  *
@@ -21,7 +22,7 @@
  * - No pointer is NULL, not even with a length of 0. Each is aligned for its type, and all the memory that its length says is there to use.
  * - What is lent to one call does not overlap. Only memory that is read alone (const) may overlap other such memory.
  * - Nobody else writes lent memory during the call. Two threads may each use a state of their own, or take turns at one.
- * - Room on the stack: reedtangle_list_order takes about 108,000 bytes of it, reedtangle_check_order 28,000, reedtangle_replay_by_value 14,000, the others less than
+ * - Room on the stack: reedtangle_list_order takes about 95,000 bytes of it, reedtangle_check_order 28,000, reedtangle_replay_by_value 14,000, the others less than
  *   6,000.
  *
  * Not promised: that a job gets through. One that is refused may be refused for ever.
@@ -104,7 +105,8 @@ enum {
     /* checker */
     REEDTANGLE_ENTRY = 15,          /* place: the first entry that is no kept job, or a repeated one; or else, where the list lacks a
                                        kept job, its length */
-    REEDTANGLE_BACKWARD = 16,       /* place: the first record that conflicts with an earlier one whose job the order puts later */
+    REEDTANGLE_BACKWARD = 16,       /* place: the first record that must come after an earlier one whose job the order puts later: a step that
+                                       conflicts with it, or an open after its end */
 
     /* lister */
     REEDTANGLE_NO_ORDER = 17,       /* place 0: no order would do */

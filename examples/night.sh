@@ -6,7 +6,7 @@ cd "$(dirname "$0")/.."
 night=$(mktemp -d)
 trap 'rm -rf "$night"' EXIT
 
-# The night of P3: job 2 reads what job 1 then writes, and job 3, opened last, reads what job 2 writes at the end.
+# The night of P3: job 2 reads what job 1 then writes; job 3, opened after the end of job 1, reads a cell that job 2 asks to write at the end.
 perl -e '
   for ([1, 0, 0], [1, 0, 0], [2, 5, 2], [3, 5, 1], [4, 0, 1], [1, 0, 0], [2, 6, 3], [4, 0, 3], [3, 6, 2], [3, 5, 2], [4, 0, 2]) {
     my ($kind, $cell, $job) = @$_;
@@ -33,6 +33,8 @@ perl -ne 'print pack "V", $_ if $. > 1' "$night/listed" > "$night/order"
 echo "the check of that order:"
 target/bin/checker "$night/log" "$night/order"
 
-perl -e 'print pack "V*", 1, 2, 3' > "$night/other"
-echo "the check of the order 1, 2, 3:"
-target/bin/checker "$night/log" "$night/other"
+for other in "1, 2, 3" "3, 2, 1"; do
+  perl -e "print pack 'V*', $other" > "$night/other"
+  echo "the check of the order $other:"
+  target/bin/checker "$night/log" "$night/other"
+done

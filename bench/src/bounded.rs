@@ -1,5 +1,5 @@
 //! An arbiter in bounded memory, in place, written apart from the project's own and tuned: beside each row's four sets it keeps two
-//! unions, what a read clashes with and what a write clashes with, word by word for all rows side by side.
+//! unions, what a read clashes with and what a write clashes with, word by word for all rows side by side; and the rows that have a past.
 use crate::requests::*;
 
 pub const ROWS: usize = 32;
@@ -14,6 +14,8 @@ pub struct Bounded {
     pub rows: [[u64; 16]; ROWS],
     /// for a read: writes, own and past; for a write: everything
     clash: [[[u64; ROWS]; 4]; 2],
+    /// rows whose past is not empty: they precede a job that has ended, and so every job that opens now
+    past: u32,
 }
 
 fn all(bits: u32) -> impl Iterator<Item = usize> {
@@ -37,6 +39,7 @@ impl Bounded {
             leads: [0; ROWS],
             rows: [[0; 16]; ROWS],
             clash: [[[0; ROWS]; 4]; 2],
+            past: 0,
         }
     }
 
@@ -55,6 +58,7 @@ impl Bounded {
             leads,
             rows: [[0; 16]; ROWS],
             clash: [[[0; ROWS]; 4]; 2],
+            past: 0,
         };
         for i in 0..ROWS {
             b.rows[i].copy_from_slice(&sets[i * 16..i * 16 + 16]);
@@ -79,6 +83,8 @@ impl Bounded {
             self.clash[0][w][i] = writes;
             self.clash[1][w][i] = writes | r[w] | r[8 + w];
         }
+        let some = r[8..].iter().any(|&w| w != 0) as u32;
+        self.past = self.past & !(1 << i) | some << i;
     }
 
     #[inline]
@@ -132,6 +138,7 @@ impl Bounded {
             self.clash[0][w][s] = 0;
             self.clash[1][w][s] = 0;
         }
+        self.past &= !(1 << s);
     }
 
     #[inline]
@@ -151,6 +158,9 @@ impl Bounded {
                 let s = self.free.trailing_zeros() as usize;
                 let number = self.next as u32;
                 self.blank(s);
+                for i in all(self.past & !self.free) {
+                    self.leads[i] |= 1 << s;
+                }
                 self.numbers[s] = number;
                 self.next += 1;
                 self.free &= !(1 << s);

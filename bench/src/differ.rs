@@ -14,6 +14,7 @@ struct Tally {
     requests: u64,
     codes: [u64; 8],
     through_ended: u64,
+    by_time: u64,
     differ: u64,
 }
 
@@ -51,6 +52,7 @@ fn windows(shape: Shape, seed: u64, requests: u64) -> Tally {
             said.extend_from_slice(&reply.1.to_le_bytes());
         }
         t.through_ended += w.through_ended;
+        t.by_time += w.by_time;
         if !replayed(first, &sent, &said) {
             t.differ += 1;
         }
@@ -185,8 +187,8 @@ fn show(name: &str, t: &Tally) {
         print!(" {c}");
     }
     println!(
-        ", {} circles through an ended job, {} differ",
-        t.through_ended, t.differ
+        ", {} circles through an ended job, {} only by an end before an open, {} differ",
+        t.through_ended, t.by_time, t.differ
     );
 }
 
@@ -196,9 +198,11 @@ pub fn run(seed: u64, requests: u64) -> bool {
     let mut passed = 0;
     let mut codes = [0u64; 8];
     let mut total = 0;
+    let mut by_time = 0;
     let mut count = |name: String, t: Tally| {
         show(&name, &t);
         total += t.requests;
+        by_time += t.by_time;
         for (sum, n) in codes.iter_mut().zip(t.codes) {
             *sum += n;
         }
@@ -221,8 +225,8 @@ pub fn run(seed: u64, requests: u64) -> bool {
     }
     count("made-up states".to_string(), made_up(seed, requests / 10));
     println!("{total} requests in all, codes {codes:?}");
-    if codes.iter().any(|&n| n == 0) {
-        println!("a code was never given");
+    if codes.iter().any(|&n| n == 0) || by_time == 0 {
+        println!("a code was never given, or no circle came only by an end before an open");
         failed += 1;
     } else {
         passed += 1;

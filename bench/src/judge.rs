@@ -1,5 +1,5 @@
 //! A checker and a lister in plain Rust, written apart from the project's own: a hash-free table of jobs found by halving, edges to the last writer and to the
-//! readers since, counts of predecessors not yet placed.
+//! readers since, and at an open to every job that has ended; counts of predecessors not yet placed.
 
 #[derive(Clone, Copy, PartialEq, Debug)]
 pub struct Verdict {
@@ -19,11 +19,25 @@ enum Stand {
     Abandoned,
 }
 
+#[derive(Clone, Copy, PartialEq)]
+enum Did {
+    Open,
+    Read(u8),
+    Write(u8),
+    End,
+}
+
 struct Table {
     numbers: Vec<u32>,
     stand: Vec<Stand>,
-    /// job's place, cell, write; in the order of the log
-    steps: Vec<(u16, u8, bool, u16)>,
+    /// job's place, what it did, the record; in the order of the log
+    did: Vec<(u16, Did, u16)>,
+}
+
+impl Table {
+    fn is_kept(&self, i: u16) -> bool {
+        self.stand[i as usize] != Stand::Abandoned
+    }
 }
 
 fn read(log: &[u8]) -> Result<Table, Verdict> {
@@ -33,7 +47,7 @@ fn read(log: &[u8]) -> Result<Table, Verdict> {
     let mut t = Table {
         numbers: Vec::with_capacity(512),
         stand: Vec::with_capacity(512),
-        steps: Vec::with_capacity(log.len() / 8),
+        did: Vec::with_capacity(log.len() / 8),
     };
     for (place, r) in log.chunks_exact(8).enumerate() {
         let cell = u16::from_le_bytes([r[2], r[3]]);
@@ -49,6 +63,8 @@ fn read(log: &[u8]) -> Result<Table, Verdict> {
             if t.numbers.len() == 512 {
                 return Err(verdict(14, place));
             }
+            t.did
+                .push((t.numbers.len() as u16, Did::Open, place as u16));
             t.numbers.push(job);
             t.stand.push(Stand::Open);
             continue;
@@ -63,15 +79,17 @@ fn read(log: &[u8]) -> Result<Table, Verdict> {
         {
             return Err(verdict(13, place));
         }
-        match r[0] {
-            2 => t.steps.push((i as u16, cell as u8, false, place as u16)),
-            3 => {
-                t.stand[i] = Stand::Wrote;
-                t.steps.push((i as u16, cell as u8, true, place as u16));
+        let (after, did) = match r[0] {
+            2 => (stand, Did::Read(cell as u8)),
+            3 => (Stand::Wrote, Did::Write(cell as u8)),
+            4 => (Stand::Ended, Did::End),
+            _ => {
+                t.stand[i] = Stand::Abandoned;
+                continue;
             }
-            4 => t.stand[i] = Stand::Ended,
-            _ => t.stand[i] = Stand::Abandoned,
-        }
+        };
+        t.stand[i] = after;
+        t.did.push((i as u16, did, place as u16));
     }
     Ok(t)
 }
@@ -92,18 +110,28 @@ pub fn check(log: &[u8], order: &[u32]) -> Verdict {
     if order.len() < kept {
         return verdict(15, order.len());
     }
-    let mut highest = [[0u32; 2]; 256];
-    for &(i, cell, write, record) in &t.steps {
-        if t.stand[i as usize] == Stand::Abandoned {
+    // the highest place of those that read each cell, that wrote it, and that have ended
+    let (mut read, mut wrote, mut ended) = ([0u32; 256], [0u32; 256], 0);
+    for &(i, did, record) in &t.did {
+        if !t.is_kept(i) {
             continue;
         }
         let p = place[i as usize];
-        let h = &mut highest[cell as usize];
-        if p < h[1] || (write && p < h[0]) {
+        let (before, of) = match did {
+            Did::Open => (ended, None),
+            Did::Read(c) => (wrote[c as usize], Some(&mut read[c as usize])),
+            Did::Write(c) => (
+                wrote[c as usize].max(read[c as usize]),
+                Some(&mut wrote[c as usize]),
+            ),
+            Did::End => (0, Some(&mut ended)),
+        };
+        if p < before {
             return verdict(16, record as usize);
         }
-        let h = &mut h[write as usize];
-        *h = (*h).max(p);
+        if let Some(highest) = of {
+            *highest = p.max(*highest);
+        }
     }
     verdict(0, kept)
 }
@@ -121,30 +149,31 @@ pub fn list(log: &[u8], room: usize) -> (Verdict, Vec<u32>) {
     // edges to the last writer and to the readers since it: the others follow
     let mut after: Vec<Vec<u16>> = vec![vec![]; n];
     let mut waits = vec![0u32; n];
-    let mut writer = [u16::MAX; 256];
+    let mut writer: Vec<Option<u16>> = vec![None; 256];
     let mut readers: Vec<Vec<u16>> = vec![vec![]; 256];
-    for &(i, cell, write, _) in &t.steps {
-        if t.stand[i as usize] == Stand::Abandoned {
+    let mut ended: Vec<u16> = vec![];
+    for &(i, did, _) in &t.did {
+        if !t.is_kept(i) {
             continue;
         }
-        let c = cell as usize;
-        let mut edge = |from: u16| {
-            if from != i {
-                after[from as usize].push(i);
+        let mut edges = |from: &mut dyn Iterator<Item = u16>| {
+            for j in from.filter(|&j| j != i) {
+                after[j as usize].push(i);
                 waits[i as usize] += 1;
             }
         };
-        if writer[c] != u16::MAX {
-            edge(writer[c]);
-        }
-        if write {
-            for &r in &readers[c] {
-                edge(r);
+        match did {
+            Did::Open => edges(&mut ended.iter().copied()),
+            Did::Read(c) => {
+                edges(&mut writer[c as usize].into_iter());
+                readers[c as usize].push(i);
             }
-            readers[c].clear();
-            writer[c] = i;
-        } else {
-            readers[c].push(i);
+            Did::Write(c) => {
+                edges(&mut writer[c as usize].into_iter());
+                edges(&mut readers[c as usize].drain(..));
+                writer[c as usize] = Some(i);
+            }
+            Did::End => ended.push(i),
         }
     }
     let mut ready = [0u64; 8];

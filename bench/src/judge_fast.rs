@@ -1,7 +1,8 @@
 //! A checker and a lister made to be fast, the partner of the figures: safe Rust, written apart from the project's own and from `judge`. One pass over the
 //! records, nothing allocated. The checker takes down the places of the order before it reads the log, so that a step is held at once against the latest
-//! place that its cell has seen; a job that the order lacks is passed over, since it is abandoned or missing in the end. The lister keeps sets of bits: for
-//! each job some that it comes after, for each cell the last writer and the readers since.
+//! place that its cell has seen, and an open against the latest place of those that have ended; a job that the order lacks is passed over, since it is abandoned
+//! or missing in the end. The lister keeps sets of bits: for each job some that it comes after, for each cell the last writer and the readers since, and those
+//! that have ended.
 use crate::judge::Verdict;
 
 type Records<'a> = &'a [[u8; 8]];
@@ -206,7 +207,7 @@ fn job_of(record: u64) -> u32 {
 
 /// Who is told the records of a log in turn. Each answers whether the record may stand there.
 trait Told {
-    fn open(&mut self, number: usize);
+    fn open(&mut self, number: usize, place: usize);
     /// A read, 0, or a write, 1.
     fn step(&mut self, number: usize, cell: usize, write: usize, place: usize) -> bool;
     fn end(&mut self, number: usize) -> bool;
@@ -245,7 +246,7 @@ fn read<F: Find, T: Told>(records: Records, find: &mut F, told: &mut T) -> Resul
             1 if opened > 0 && job <= last => false,
             1 if opened == 512 => return Err(fault(14, place)),
             1 => {
-                told.open(find.enter(job).ok_or(Stop::Lost)?);
+                told.open(find.enter(job).ok_or(Stop::Lost)?, place);
                 opened += 1;
                 last = job;
                 true
@@ -301,6 +302,8 @@ struct Check {
     places: [u32; ROOM],
     /// For each cell: a place for what is not kept, nothing, the highest that wrote, the highest that did anything.
     highest: [[u32; 4]; 256],
+    /// The highest that has ended; an open job that the order lacks counts as below all that it has.
+    ended: u32,
     backward: Option<usize>,
     kept: usize,
     kept_placed: usize,
@@ -320,11 +323,14 @@ impl Check {
 
 impl Told for Check {
     #[inline(always)]
-    fn open(&mut self, number: usize) {
+    fn open(&mut self, number: usize, record: usize) {
         let place = self.places[number];
         self.stands[number] = place.max(OPEN);
         self.kept += 1;
         self.kept_placed += (place != 0) as usize;
+        if place < self.ended {
+            self.below(place, record);
+        }
     }
 
     #[inline(always)]
@@ -350,6 +356,7 @@ impl Told for Check {
             return false;
         };
         let open = *stand >= OPEN;
+        self.ended = self.ended.max(*stand);
         *stand = ENDED;
         open
     }
@@ -374,6 +381,7 @@ fn check_by<F: Find>(records: Records, order: &[u32]) -> Result<Verdict, Stop> {
         stands: [NEVER; ROOM],
         places: [0; ROOM],
         highest: [[FIRST; 4]; 256],
+        ended: 0,
         backward: None,
         kept: 0,
         kept_placed: 0,
@@ -459,12 +467,14 @@ struct List {
     after: [[u64; 8]; 512],
     cells: [Cell; 256],
     kept: [u64; 8],
+    ended: [u64; 8],
 }
 
 impl Told for List {
     #[inline(always)]
-    fn open(&mut self, number: usize) {
+    fn open(&mut self, number: usize, _: usize) {
         self.stands[number] = Stand::Open;
+        self.after[number] = self.ended;
         let m = mark(number);
         self.kept[m.word] |= m.bit;
     }
@@ -501,6 +511,8 @@ impl Told for List {
         };
         let open = *stand <= Stand::Wrote;
         *stand = Stand::Ended;
+        let m = mark(number);
+        self.ended[m.word] |= m.bit;
         open
     }
 
@@ -608,6 +620,7 @@ fn list_by<F: Find>(records: Records, out: &mut [u32]) -> Result<Verdict, Stop> 
         after: [[0; 8]; 512],
         cells: [no_cell; 256],
         kept: [0; 8],
+        ended: [0; 8],
     };
     read(records, &mut find, &mut list)?;
     let kept: usize = list.kept.iter().map(|w| w.count_ones() as usize).sum();

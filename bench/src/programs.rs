@@ -77,7 +77,7 @@ fn checked(log: &[u8], order: &[u8]) -> Said {
         15 if p == entries.len() => format!("the order has length {p} and lacks a kept job"),
         15 => format!("entry {p} repeats an earlier entry or names a job that is not kept"),
         16 => {
-            format!("record {p} conflicts with an earlier record whose job the order puts later")
+            format!("record {p} must come after an earlier record whose job the order puts later")
         }
         _ => fault(v),
     };
@@ -91,7 +91,7 @@ fn listed(log: &[u8]) -> Said {
         return printed(format!("accepted {}\n{jobs}", v.place));
     }
     let words = match v.code {
-        17 => "no order keeps every conflicting pair".into(),
+        17 => "no order keeps every conflicting pair and puts each job before those opened after its end".into(),
         _ => fault(v),
     };
     printed(format!("refused {} {}\n{words}\n", v.code, v.place))

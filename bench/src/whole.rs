@@ -1,12 +1,20 @@
-//! The arbiter that keeps the whole history, straight from the definitions: a step is granted exactly when the conflict graph of the kept
-//! history with the step has no circle. Slow, and meant to be.
+//! The arbiter that keeps the whole history, straight from the definitions: a step is granted exactly when the precedences of the kept
+//! history with the step have no circle. Slow, and meant to be.
 use crate::requests::*;
 
+/// What was granted: an open with the number it got, a step with its cell, an end.
 #[derive(Clone, Copy, PartialEq)]
-struct Step {
+struct Granted {
+    kind: u8,
     job: u32,
     cell: u8,
-    write: bool,
+}
+
+/// Does the job of the earlier one precede that of the later one by these two? Two steps that conflict, or an end and an open after it.
+fn precedes(x: Granted, y: Granted) -> bool {
+    let steps = [x.kind, y.kind].iter().all(|&k| k == READ || k == WRITE);
+    let conflict = steps && x.cell == y.cell && (x.kind == WRITE || y.kind == WRITE);
+    x.job != y.job && (conflict || (x.kind == END && y.kind == OPEN))
 }
 
 pub struct Whole {
@@ -14,9 +22,10 @@ pub struct Whole {
     opened: Vec<u32>,
     ended: Vec<u32>,
     abandoned: Vec<u32>,
-    steps: Vec<Step>,
-    /// Of the refusals with code 7: how many circles pass a job that has ended.
+    history: Vec<Granted>,
+    /// Of the refusals with code 7: how many circles pass a job that has ended, and how many there would not be without the pairs of an end and a later open.
     pub through_ended: u64,
+    pub by_time: u64,
 }
 
 impl Whole {
@@ -26,8 +35,9 @@ impl Whole {
             opened: vec![],
             ended: vec![],
             abandoned: vec![],
-            steps: vec![],
+            history: vec![],
             through_ended: 0,
+            by_time: 0,
         }
     }
 
@@ -36,17 +46,27 @@ impl Whole {
     }
 
     /// Is there a chain of precedences from the asking job back to itself once the step is there? Every new precedence points into the asking job, and
-    /// there was no circle before, so each circle passes it. Found by walking from the job along precedences, over every pair of kept steps.
-    fn closes(&mut self, step: Step) -> bool {
-        let gone = self.abandoned.clone();
-        let mut kept: Vec<Step> = self
-            .steps
+    /// there was no circle before, so each circle passes it. Found by walking from the job along precedences, over every pair of the kept history.
+    fn closes(&mut self, step: Granted) -> bool {
+        let kept: Vec<Granted> = self
+            .history
             .iter()
             .copied()
-            .filter(|s| !gone.contains(&s.job))
+            .filter(|g| !self.abandoned.contains(&g.job))
+            .chain([step])
             .collect();
-        kept.push(step);
-        let mut jobs: Vec<u32> = kept.iter().map(|s| s.job).collect();
+        let Some(ended) = self.circle(&kept, step.job) else {
+            return false;
+        };
+        self.through_ended += ended as u64;
+        let steps: Vec<Granted> = kept.into_iter().filter(|g| g.kind != END).collect();
+        self.by_time += self.circle(&steps, step.job).is_none() as u64;
+        true
+    }
+
+    /// A circle through the job, if there is one: does the one found pass a job that has ended?
+    fn circle(&self, kept: &[Granted], job: u32) -> Option<bool> {
+        let mut jobs: Vec<u32> = kept.iter().map(|g| g.job).collect();
         jobs.sort_unstable();
         jobs.dedup();
         let index = |j: u32| jobs.binary_search(&j).unwrap();
@@ -54,13 +74,12 @@ impl Whole {
         let mut edge = vec![false; n * n];
         for b in 0..kept.len() {
             for a in 0..b {
-                let (x, y) = (kept[a], kept[b]);
-                if x.job != y.job && x.cell == y.cell && (x.write || y.write) {
-                    edge[index(x.job) * n + index(y.job)] = true;
+                if precedes(kept[a], kept[b]) {
+                    edge[index(kept[a].job) * n + index(kept[b].job)] = true;
                 }
             }
         }
-        let start = index(step.job);
+        let start = index(job);
         let mut from = vec![usize::MAX; n];
         let mut todo = vec![start];
         while let Some(i) = todo.pop() {
@@ -74,16 +93,18 @@ impl Whole {
                             ended |= self.ended.contains(&jobs[at]);
                             at = from[at];
                         }
-                        if ended {
-                            self.through_ended += 1;
-                        }
-                        return true;
+                        return Some(ended);
                     }
                     todo.push(k);
                 }
             }
         }
-        false
+        None
+    }
+
+    fn grant(&mut self, kind: u8, job: u32, cell: u8) -> (u32, u32) {
+        self.history.push(Granted { kind, job, cell });
+        (0, job)
     }
 
     pub fn ask(&mut self, r: Request) -> (u32, u32) {
@@ -103,7 +124,7 @@ impl Whole {
                 let number = self.next as u32;
                 self.next += 1;
                 self.opened.push(number);
-                (0, number)
+                self.grant(OPEN, number, 0)
             }
             READ | WRITE => {
                 if cell > 255 {
@@ -112,29 +133,24 @@ impl Whole {
                 if !self.is_open(job) {
                     return (3, 0);
                 }
-                let step = Step {
-                    job,
-                    cell: cell as u8,
-                    write: r[0] == WRITE,
-                };
-                if self.closes(step) {
+                let (kind, cell) = (r[0], cell as u8);
+                if self.closes(Granted { kind, job, cell }) {
                     return (7, 0);
                 }
-                self.steps.push(step);
-                (0, job)
+                self.grant(kind, job, cell)
             }
             END => {
                 if !self.is_open(job) {
                     return (3, 0);
                 }
                 self.ended.push(job);
-                (0, job)
+                self.grant(END, job, 0)
             }
             ABANDON => {
                 if !self.is_open(job) {
                     return (3, 0);
                 }
-                if self.steps.iter().any(|s| s.job == job && s.write) {
+                if self.history.iter().any(|g| g.job == job && g.kind == WRITE) {
                     return (4, 0);
                 }
                 self.abandoned.push(job);

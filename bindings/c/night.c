@@ -103,10 +103,13 @@ static void put_row(uint8_t *bytes, const row *r)
     bytes[1] = r->byte1;
 }
 
-/* The night of examples/night.sh. Job 2 read cell 5 before job 1 wrote it, so its own write of cell 5 would close a circle. */
+/*
+ * The night of examples/night.sh. Job 2 read cell 5 before job 1 wrote it, so its own write of cell 5 would close a circle. So would its write of
+ * cell 6: job 3, which has read it, was opened after the end of job 1.
+ */
 static const row night[] = {
     {1, 0, 0, 0, 0, 1}, {1, 0, 0, 0, 0, 2}, {2, 0, 5, 2, 0, 2}, {3, 0, 5, 1, 0, 1}, {4, 0, 0, 1, 0, 1}, {1, 0, 0, 0, 0, 3},
-    {2, 0, 6, 3, 0, 3}, {4, 0, 0, 3, 0, 3}, {3, 0, 6, 2, 0, 2}, {3, 0, 5, 2, 7, 0}, {4, 0, 0, 2, 0, 2},
+    {2, 0, 6, 3, 0, 3}, {4, 0, 0, 3, 0, 3}, {3, 0, 6, 2, 7, 0}, {3, 0, 5, 2, 7, 0}, {4, 0, 0, 2, 0, 2},
 };
 
 /* Another one, from job 70,000: the refusals 1 to 4 and 7, and fields that are ignored. */
@@ -148,7 +151,7 @@ static void two_nights(void)
     tell(replies_one, "the night: 11 replies as worked out by hand");
     tell(replies_two, "the other night, turn by turn with it on a state of its own: 16 replies as worked out by hand");
     tell(!touched, "no refusal of the two nights changed its state");
-    tell(log_one.length == 80 && log_two.length == 80, "the logs have 10 records each");
+    tell(log_one.length == 72 && log_two.length == 80, "the logs have 9 records and 10");
 
     /* every job has ended or was abandoned: nothing is held but the next number */
     reedtangle_state fresh;
@@ -159,19 +162,20 @@ static void two_nights(void)
 /* An order of the first night, and orders that would not do. */
 static void orders_by_hand(void)
 {
-    static const uint32_t listed[3] = {3, 2, 1}, forward[3] = {1, 2, 3}, twice[4] = {3, 2, 1, 3}, lacking[2] = {3, 2}, strange[2] = {3, 9};
+    static const uint32_t listed[3] = {2, 1, 3}, forward[3] = {1, 2, 3}, reverse[3] = {3, 2, 1}, twice[4] = {2, 1, 3, 2}, lacking[2] = {2, 1}, strange[2] = {2, 9};
     uint32_t list[5] = {90, 91, 92, 93, 94};
     const uint8_t *log = log_one.bytes;
     size_t length = log_one.length;
     int good;
 
     good = verdict_is(reedtangle_list(log, length, list, 5), REEDTANGLE_GRANTED, 3);
-    tell(good && memcmp(list, listed, sizeof listed) == 0 && list[3] == 93 && list[4] == 94, "the lister names 3, 2, 1 and leaves the entries past them");
+    tell(good && memcmp(list, listed, sizeof listed) == 0 && list[3] == 93 && list[4] == 94, "the lister names 2, 1, 3 and leaves the entries past them");
     tell(verdict_is(reedtangle_check(log, length, list, 3), REEDTANGLE_GRANTED, 3), "the checker accepts that order");
     tell(verdict_is(reedtangle_check(log, length, forward, 3), REEDTANGLE_BACKWARD, 3), "1, 2, 3 gets 16 at record 3");
-    tell(verdict_is(reedtangle_check(log, length, twice, 4), REEDTANGLE_ENTRY, 3), "3, 2, 1, 3 gets 15 at entry 3");
-    tell(verdict_is(reedtangle_check(log, length, lacking, 2), REEDTANGLE_ENTRY, 2), "3, 2 gets 15 at the length");
-    tell(verdict_is(reedtangle_check(log, length, strange, 2), REEDTANGLE_ENTRY, 1), "3, 9 gets 15 at entry 1");
+    tell(verdict_is(reedtangle_check(log, length, reverse, 3), REEDTANGLE_BACKWARD, 5), "3, 2, 1 gets 16 at record 5, the open of job 3");
+    tell(verdict_is(reedtangle_check(log, length, twice, 4), REEDTANGLE_ENTRY, 3), "2, 1, 3, 2 gets 15 at entry 3");
+    tell(verdict_is(reedtangle_check(log, length, lacking, 2), REEDTANGLE_ENTRY, 2), "2, 1 gets 15 at the length");
+    tell(verdict_is(reedtangle_check(log, length, strange, 2), REEDTANGLE_ENTRY, 1), "2, 9 gets 15 at entry 1");
 
     /* the abandoned job of the other night is no kept job; 70,000 wrote cell 7 before 70,001 read it */
     good = verdict_is(reedtangle_list(log_two.bytes, log_two.length, list, 2), REEDTANGLE_GRANTED, 2);
@@ -191,18 +195,18 @@ static void logs_by_hand(void)
     uint32_t i;
 
     tell(verdict_is(reedtangle_list(log_one.bytes, log_one.length, list, 2), REEDTANGLE_SHORT, 3), "room for 2 of 3 jobs gets 18, 3");
-    tell(verdict_is(reedtangle_list(log_one.bytes, 79, list, 3), REEDTANGLE_LENGTH, 0), "79 bytes get 11");
+    tell(verdict_is(reedtangle_list(log_one.bytes, 71, list, 3), REEDTANGLE_LENGTH, 0), "71 bytes get 11");
     tell(verdict_is(reedtangle_check(large, sizeof large, list, 3), REEDTANGLE_LENGTH, 0), "32,776 bytes get 11");
 
     memcpy(log.bytes, log_one.bytes, log_one.length);
     log.bytes[2 * 8 + 3] = 1;
-    good = verdict_is(reedtangle_list(log.bytes, 80, list, 3), REEDTANGLE_FORM, 2);
-    tell(good && verdict_is(reedtangle_check(log.bytes, 80, list, 3), REEDTANGLE_FORM, 2), "cell 261 in record 2 gets 12, 2 of both");
+    good = verdict_is(reedtangle_list(log.bytes, 72, list, 3), REEDTANGLE_FORM, 2);
+    tell(good && verdict_is(reedtangle_check(log.bytes, 72, list, 3), REEDTANGLE_FORM, 2), "cell 261 in record 2 gets 12, 2 of both");
 
     memcpy(log.bytes, log_one.bytes, log_one.length);
     log.bytes[5 * 8 + 4] = 2;
-    good = verdict_is(reedtangle_list(log.bytes, 80, list, 3), REEDTANGLE_TURN, 5);
-    tell(good && verdict_is(reedtangle_check(log.bytes, 80, list, 3), REEDTANGLE_TURN, 5), "a second open of job 2 in record 5 gets 13, 5 of both");
+    good = verdict_is(reedtangle_list(log.bytes, 72, list, 3), REEDTANGLE_TURN, 5);
+    tell(good && verdict_is(reedtangle_check(log.bytes, 72, list, 3), REEDTANGLE_TURN, 5), "a second open of job 2 in record 5 gets 13, 5 of both");
 
     for (i = 0; i < 513; i++) {
         reedtangle_put_request(large + 8 * i, REEDTANGLE_OPEN, 0, i);
@@ -210,12 +214,14 @@ static void logs_by_hand(void)
     good = verdict_is(reedtangle_list(large, 8 * 513, list, 3), REEDTANGLE_TOO_MANY, 512);
     tell(good && verdict_is(reedtangle_check(large, 8 * 513, list, 3), REEDTANGLE_TOO_MANY, 512), "the 513th open gets 14, 512 of both");
 
-    /* the write that the arbiter refused, put into the log all the same, before job 2 ends */
-    memcpy(log.bytes, log_one.bytes, 9 * 8);
-    log.length = 9 * 8;
-    reedtangle_put_request(bytes, REEDTANGLE_WRITE, 5, 2);
-    log_add(&log, bytes, 2);
-    tell(verdict_is(reedtangle_list(log.bytes, log.length, list, 3), REEDTANGLE_NO_ORDER, 0), "the log with the refused write gets 17");
+    /* each write that the arbiter refused, put into the log all the same, before job 2 ends */
+    for (i = 5; i <= 6; i++) {
+        memcpy(log.bytes, log_one.bytes, 8 * 8);
+        log.length = 8 * 8;
+        reedtangle_put_request(bytes, REEDTANGLE_WRITE, (uint16_t)i, 2);
+        log_add(&log, bytes, 2);
+        tell(verdict_is(reedtangle_list(log.bytes, log.length, list, 3), REEDTANGLE_NO_ORDER, 0), i == 5 ? "the log with the refused write of cell 5 gets 17" : "and so does that with the one of cell 6");
+    }
     tell(list[0] == 90 && list[1] == 91 && list[2] == 92, "the lent list is as it was after all these refusals");
 }
 
@@ -277,6 +283,14 @@ static void fields_by_hand(void)
     want.sets[0 * 16 + 4] = 0;
     want.sets[1 * 16 + 12] = 1u << 5;       /* past writes of slot 1: cell 5 */
     tell(good && same(&one, &want), "one of them ended: its slot is blank, and the past of the other has its write");
+
+    reedtangle_put_request(bytes, REEDTANGLE_OPEN, 0, 0);
+    good = reply_is(reedtangle_ask(&one, bytes), REEDTANGLE_GRANTED, 102);
+    want.next = 103;
+    want.free = 0xfffffffc;
+    want.numbers[0] = 102;
+    want.leads[1] = 1;                      /* job 101 comes before job 100, which ended before job 102, in slot 0, was opened */
+    tell(good && same(&one, &want), "a third opened: the one with a past leads to it");
 }
 
 /* A state that no requests give: job 7 in all 32 slots, each row leading everywhere. It gets answers all the same. */
@@ -380,28 +394,28 @@ static uint32_t order[REEDTANGLE_LOG_JOBS];
 static unsigned long codes[CODES];
 
 /*
- * The slow judge: the place of the first record that conflicts with an earlier one whose job the order puts later, or the count of
- * records. Every pair is looked at. The order has each kept job once.
+ * The slow judge: the place of the first record that must come after an earlier one whose job the order puts later, or the count of records. It
+ * must where the two are conflicting steps, and where they are an end and an open. Every pair is looked at. The order has each kept job once.
  */
 static uint32_t turned(const host_log *log, const uint32_t *jobs, uint32_t count)
 {
     static uint32_t place[REEDTANGLE_LOG_RECORDS];
     uint32_t records = (uint32_t)(log->length / 8), i, j;
     for (i = 0; i < records; i++) {
-        place[i] = UINT32_MAX;              /* no step, or the step of no kept job */
-        if (log->bytes[8 * i] == REEDTANGLE_READ || log->bytes[8 * i] == REEDTANGLE_WRITE) {
-            for (j = 0; j < count; j++) {
-                if (jobs[j] == number_at(log->bytes + 8 * i + 4)) {
-                    place[i] = j;
-                }
+        place[i] = UINT32_MAX;              /* the record of no kept job */
+        for (j = 0; j < count; j++) {
+            if (jobs[j] == number_at(log->bytes + 8 * i + 4)) {
+                place[i] = j;
             }
         }
     }
     for (i = 0; i < records; i++) {
         for (j = 0; place[i] != UINT32_MAX && j < i; j++) {
             const uint8_t *later = log->bytes + 8 * i, *earlier = log->bytes + 8 * j;
-            int conflict = place[j] != UINT32_MAX && later[2] == earlier[2] && (later[0] == REEDTANGLE_WRITE || earlier[0] == REEDTANGLE_WRITE);
-            if (conflict && place[j] > place[i]) {
+            int steps = (later[0] == REEDTANGLE_READ || later[0] == REEDTANGLE_WRITE) && (earlier[0] == REEDTANGLE_READ || earlier[0] == REEDTANGLE_WRITE);
+            int conflict = steps && later[2] == earlier[2] && (later[0] == REEDTANGLE_WRITE || earlier[0] == REEDTANGLE_WRITE);
+            int in_time = earlier[0] == REEDTANGLE_END && later[0] == REEDTANGLE_OPEN;
+            if (place[j] != UINT32_MAX && (conflict || in_time) && place[j] > place[i]) {
                 return i;
             }
         }
@@ -498,7 +512,7 @@ static void many(int round)
 int main(void)
 {
     /* the Rust tests make the same requests and expect the same; 6 is tried by hand */
-    static const unsigned long want[CODES] = {14105, 223, 233, 861, 697, 658, 0, 3223};
+    static const unsigned long want[CODES] = {14084, 223, 233, 864, 696, 664, 0, 3236};
     int round, all = 1;
     size_t i;
     printf("a state is %zu bytes\n", sizeof(reedtangle_state));

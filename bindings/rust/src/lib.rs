@@ -5,8 +5,9 @@
 //! It has no dependencies, allocates nothing and keeps no globals.
 //!
 //! Two steps (reads and writes) conflict when their jobs differ, their cell is the same, and they are not both reads. A job is kept unless it
-//! was abandoned. An order of the kept jobs would do when any two conflicting steps come in it as they came in the log; so the words are
-//! used below. That a job gets through is not promised: one that is refused may be refused for ever.
+//! was abandoned. An order of the kept jobs would do when any two conflicting steps come in it as they came in the log, and each job comes in
+//! it before all that were opened after its end; so the words are used below. That a job gets through is not promised: one that is refused may
+//! be refused for ever.
 //!
 //! Every function here is total: any request, any bytes and any list get exactly one answer, and a refusal changes nothing.
 //!
@@ -450,7 +451,8 @@ pub enum BadOrder {
     Log(Fault),
     /// 15: the first entry that is no kept job or a repeated one; or, with none, the length of a list that lacks a kept job.
     Entry(usize),
-    /// 16: the first record that conflicts with an earlier one whose job the order puts later.
+    /// 16: the first record that must come after an earlier one whose job the order puts later: a step that conflicts with it, or an open
+    /// after its end.
     Backward(usize),
 }
 
@@ -534,9 +536,9 @@ impl Error for NoList {}
 
 /// Would this order do for the log? The count of kept jobs (those opened and not abandoned), or what is wrong.
 ///
-/// It is accepted exactly when the log has no fault, the order has each kept job once and nothing else, and no conflicting pair of steps
-/// runs backward. Running the kept jobs one at a time in that order then shows each of their reads the same value, and leaves each cell the
-/// same, as the log did. Takes about 28,000 bytes of stack.
+/// It is accepted exactly when the log has no fault, the order has each kept job once and nothing else, no conflicting pair of steps runs
+/// backward, and no job comes before one that had ended when it was opened. Running the kept jobs one at a time in that order then shows each
+/// of their reads the same value, and leaves each cell the same, as the log did. Takes about 28,000 bytes of stack.
 #[inline]
 pub fn check_order(log: &[u8], order: &[u32]) -> Result<usize, BadOrder> {
     // Two slices that are only read.
@@ -558,7 +560,7 @@ pub fn check_order(log: &[u8], order: &[u32]) -> Result<usize, BadOrder> {
 /// stay. On a refusal all of `out` stays.
 ///
 /// With room, an order comes exactly when there is one. The log of what a fresh arbiter granted, within the sizes of a log, always has one.
-/// Takes about 104,000 bytes of stack.
+/// Takes about 95,000 bytes of stack.
 #[inline]
 pub fn list_order(log: &[u8], out: &mut [u32]) -> Result<usize, NoList> {
     // Two slices, apart since one is lent to be written.

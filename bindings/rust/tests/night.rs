@@ -36,7 +36,8 @@ fn bytes(row: &Row) -> [u8; 8] {
     bytes
 }
 
-/// The night of examples/night.sh. Job 2 read cell 5 before job 1 wrote it, so its own write of cell 5 would close a circle.
+/// The night of examples/night.sh. Job 2 read cell 5 before job 1 wrote it, so its own write of cell 5 would close a circle. So would its
+/// write of cell 6: job 3, which has read it, was opened after the end of job 1.
 const NIGHT: [Row; 11] = [
     (1, 0, 0, 0, 0, 1),
     (1, 0, 0, 0, 0, 2),
@@ -46,7 +47,7 @@ const NIGHT: [Row; 11] = [
     (1, 0, 0, 0, 0, 3),
     (2, 0, 6, 3, 0, 3),
     (4, 0, 0, 3, 0, 3),
-    (3, 0, 6, 2, 0, 2),
+    (3, 0, 6, 2, 7, 0),
     (3, 0, 5, 2, 7, 0),
     (4, 0, 0, 2, 0, 2),
 ];
@@ -93,7 +94,7 @@ fn two_nights() -> (Vec<u8>, Vec<u8>) {
 #[test]
 fn the_night() {
     let (one, two) = two_nights();
-    assert_eq!((one.len(), two.len()), (80, 80));
+    assert_eq!((one.len(), two.len()), (72, 80));
 }
 
 #[test]
@@ -114,15 +115,17 @@ fn orders_by_hand() {
     let (log, other) = two_nights();
     let mut list = [90, 91, 92, 93, 94];
     assert_eq!(list_order(&log, &mut list), Ok(3));
-    assert_eq!(list, [3, 2, 1, 93, 94]);
+    assert_eq!(list, [2, 1, 3, 93, 94]);
     assert_eq!(check_order(&log, &list[..3]), Ok(3));
     assert_eq!(check_order(&log, &[1, 2, 3]), Err(BadOrder::Backward(3)));
-    assert_eq!(check_order(&log, &[3, 2, 1, 3]), Err(BadOrder::Entry(3)));
-    assert_eq!(check_order(&log, &[3, 2]), Err(BadOrder::Entry(2)));
-    assert_eq!(check_order(&log, &[3, 9]), Err(BadOrder::Entry(1)));
+    // record 5 is the open of job 3, after the end of job 1
+    assert_eq!(check_order(&log, &[3, 2, 1]), Err(BadOrder::Backward(5)));
+    assert_eq!(check_order(&log, &[2, 1, 3, 2]), Err(BadOrder::Entry(3)));
+    assert_eq!(check_order(&log, &[2, 1]), Err(BadOrder::Entry(2)));
+    assert_eq!(check_order(&log, &[2, 9]), Err(BadOrder::Entry(1)));
     // the abandoned job of the other night is no kept job; 70,000 wrote cell 7 before 70,001 read it
     assert_eq!(list_order(&other, &mut list[..2]), Ok(2));
-    assert_eq!(list, [70000, 70001, 1, 93, 94]);
+    assert_eq!(list, [70000, 70001, 3, 93, 94]);
     assert_eq!(check_order(&[], &[]), Ok(0));
     assert_eq!(list_order(&[], &mut []), Ok(0));
 }
@@ -134,9 +137,9 @@ fn logs_by_hand() {
         let mut list = [90, 91, 92];
         assert_eq!(list_order(log, &mut list), Err(NoList::Log(fault)));
         assert_eq!(list, [90, 91, 92]);
-        assert_eq!(check_order(log, &[3, 2, 1]), Err(BadOrder::Log(fault)));
+        assert_eq!(check_order(log, &[2, 1, 3]), Err(BadOrder::Log(fault)));
     };
-    both(&log[..79], Fault::Length);
+    both(&log[..71], Fault::Length);
     both(&[0; LOG_BYTES + 8], Fault::Length);
     let mut bad = log.clone();
     bad[2 * 8 + 3] = 1;
@@ -149,11 +152,13 @@ fn logs_by_hand() {
 
     let mut list = [90, 91, 92];
     assert_eq!(list_order(&log, &mut list[..2]), Err(NoList::Short(3)));
-    // the write that the arbiter refused, put into the log all the same, before job 2 ends
-    let mut bad = log[..72].to_vec();
-    bad.extend(request::write(Job(2), 5));
-    assert_eq!(list_order(&bad, &mut list), Err(NoList::NoOrder));
-    assert_eq!(list, [90, 91, 92]);
+    // each write that the arbiter refused, put into the log all the same, before job 2 ends
+    for cell in [5, 6] {
+        let mut bad = log[..64].to_vec();
+        bad.extend(request::write(Job(2), cell));
+        assert_eq!(list_order(&bad, &mut list), Err(NoList::NoOrder));
+        assert_eq!(list, [90, 91, 92]);
+    }
 }
 
 #[test]
@@ -259,6 +264,13 @@ fn states() {
     assert_eq!(*two.state(), want);
     assert_eq!(two.write(b, 5), Err(Refusal::Circle));
     assert_eq!(*two.state(), want);
+
+    assert_eq!(two.open(), Ok(Job(102)));
+    want.next = 103;
+    want.free = 0xffff_fffc;
+    want.numbers[0] = 102;
+    want.leads[1] = 1; // job 101 comes before job 100, which ended before job 102, in slot 0, was opened
+    assert_eq!(*two.state(), want);
 }
 
 /// A state that no requests give gets answers all the same.
@@ -359,22 +371,25 @@ impl Host {
     }
 }
 
-/// The slow judge: the place of the first record that conflicts with an earlier one whose job the order puts later. Every pair is looked at.
+/// The slow judge: the place of the first record that must come after an earlier one whose job the order puts later. It must where the two are
+/// conflicting steps, and where they are an end and an open. Every pair is looked at.
 fn turned(log: &[u8], order: &[u32]) -> Option<usize> {
-    let steps: Vec<(usize, bool, u8, usize)> = log
+    // place in the log, kind, cell, place of the job in the order
+    let records: Vec<(usize, u8, u8, usize)> = log
         .chunks(8)
         .enumerate()
-        .filter(|(_, r)| r[0] == 2 || r[0] == 3)
         .filter_map(|(at, r)| {
             let job = u32::from_le_bytes(r[4..8].try_into().unwrap());
-            Some((at, r[0] == 3, r[2], order.iter().position(|&j| j == job)?))
+            Some((at, r[0], r[2], order.iter().position(|&j| j == job)?))
         })
         .collect();
-    for (n, &(at, writes, cell, place)) in steps.iter().enumerate() {
-        if steps[..n]
-            .iter()
-            .any(|s| s.2 == cell && (s.1 || writes) && s.3 > place)
-        {
+    for (n, &(at, kind, cell, place)) in records.iter().enumerate() {
+        let must = |earlier: &(usize, u8, u8, usize)| match (earlier.1, kind) {
+            (2, 3) | (3, 2) | (3, 3) => earlier.2 == cell,
+            (4, 1) => true,
+            _ => false,
+        };
+        if records[..n].iter().any(|r| must(r) && r.3 > place) {
             return Some(at);
         }
     }
@@ -449,5 +464,5 @@ fn many_requests() {
     }
     println!("replies by code: {codes:?}");
     // the C program makes the same requests and expects the same; 6 is tried by hand
-    assert_eq!(codes, [14105, 223, 233, 861, 697, 658, 0, 3223]);
+    assert_eq!(codes, [14084, 223, 233, 864, 696, 664, 0, 3236]);
 }

@@ -20,16 +20,15 @@ use Rattle.graph.specs.Decide.{by-test, answer, eq-test, lt-test}
 use Rattle.marks.specs.Marks.{bit, mask-of}
 use Rattle.marks.specs.MarkLaws.{bit-above, bit-or, bit-and, bit-others, mask-lt, mask-same, bit-put, bit-rest, test-mark}
 use Rattle.marks.specs.MaskLaws.{bit-of, masked}
-use Rattle.history.specs.Events.{read, write}
-use Rattle.history.specs.Memory.{Footprint, meets}
-use Rattle.held.specs.Held.{own-at, past-at, cell-at, word-at, touched}
+use Rattle.history.specs.Events.{Kind, read, write}
+use Rattle.held.specs.Held.{own-at, past-at, cell-at, word-at, meets, touched}
 use Rattle.arbiter.specs.Lent.{sets-only, kind-of}
 use Rattle.arbiter.specs.Rows.{met, touches, clash-word, past-word}
 
 -- ---- the words that the code reads
 
--- a write clashes with any footprint that has the cell, a read with one that has written it
-meets-is : (f : Footprint) (w : Bool) (c : ℕ) → meets f (kind-of w) c ≡ cond w (f read c || f write c) (f write c)
+-- a write clashes with any sets that have the cell, a read with those where it is written
+meets-is : (f : Kind → ℕ → Bool) (w : Bool) (c : ℕ) → meets f (kind-of w) c ≡ cond w (f read c || f write c) (f write c)
 unfolding meets
 meets-is f true c = ap₂ _||_ (and-true (f read c)) (or-false (f write c && true) ∙ and-true (f write c))
 meets-is f false c = ap₂ _||_ (and-false (f read c)) (or-false (f write c && true) ∙ and-true (f write c))

@@ -12,7 +12,7 @@ use mathlib.Core.Bool.{Bool, true, false, not, _&&_, _||_, cond, and-false, or-f
 use mathlib.Core.Option.{Option, none, some}
 use mathlib.Core.List.{List, _∷_}
 use Prim.Native.Nat.{ℕ, zero, suc, _+_, _-_, _*_, _/_, _%_, _^_, _≤_, _<_, suc-le-suc}
-use native.Mathlib.Nat.{add-assoc, not-suc-le-zero, zero-lt-suc, le-of-suc-le-suc, lt-trans, lt-of-le-of-lt, mod-eq-of-lt}
+use native.Mathlib.Nat.{not-suc-le-zero, zero-lt-suc, le-of-suc-le-suc, lt-trans, lt-of-le-of-lt, mod-eq-of-lt}
 use native.Mathlib.Numerals.{add-one}
 use native.Mathlib.Omega.{arith}
 use lib.Bits.{bitOr, bitAnd, or-lt, and-le-l, and-le-r}
@@ -20,7 +20,7 @@ use lib.Count.{ones, trailingZeros, trailing-of-zero}
 use lib.Dec.{T, leb, eqb}
 use lib.ListN.{length, getD, replicate}
 use borrow.Author.Tests.{le-leb, lt-leb, eq-eqb, ne-eqb}
-use Rattle.graph.specs.Decide.{Decides, false-is, own-test, eq-test, le-test, not-test, and-test, or-test, read-as, answer, same-test, test-true}
+use Rattle.graph.specs.Decide.{Decides, is-true, false-is, own-test, eq-test, le-test, not-test, and-test, or-test, read-as, answer, same-test, test-true}
 use Rattle.graph.specs.Lists.{_∈_, only, only-yes, only-no, only-both, only-only, only-keeps, only-from}
 use Rattle.graph.specs.Reach.{reach, reach-test}
 use Rattle.graph.specs.Walk.{Via, one, carry, join, relax, cut, into}
@@ -33,14 +33,15 @@ use Rattle.history.specs.Events.{Kind}
 use Rattle.history.specs.Formats.{request-of}
 use Rattle.history.specs.Replies.{Reply, Want, an-open, a-step, an-end, an-abandon, want, tests, code-of, job-of, reply-of}
 use Rattle.held.specs.Held.{Held, fresh-held, first-in, is-some, at-slot, with-slot, set-place, open-at, open-slots, number-at, leads-at, word-at, cell-at, slot-of, free-slot}
-use Rattle.held.specs.Held.{touched, chain-back, altered, facts, opened-at, stepped-at, left-at, ended-at, abandoned-at, moved, answer-to, after}
-use Rattle.arbiter.specs.Lent.{lent, numbered, kind-of, code-for, Does, Steps}
+use Rattle.held.specs.Held.{set-at, touched, chain-back, altered, facts, has-past, opened-at, stepped-at, left-at, ended-at, abandoned-at, moved, answer-to, after}
+use Rattle.arbiter.specs.Lent.{lent, sets-only, numbered, kind-of, code-for, Does, Steps}
 use Rattle.arbiter.specs.Rows.{is-open, holds, leads-to, reaches, touches, theirs, gained-word, folded-word, put, struck, gained-row, gained, blanked, folded, marked-own}
 use Rattle.arbiter.specs.declared.Answer.{Answer}
 use Rattle.arbiter.specs.declared.Answer.the-variants.{Granted, Malformed, NoCell, NotOpen, HasWritten, Full, Spent, Circle}
 use Rattle.arbiter.specs.declared.JobNumber.{JobNumber}
 use Rattle.arbiter.specs.declared.Moved.{Moved}
-use Rattle.arbiter.proofs.SetLaws.{Part, part-tab}
+use Rattle.arbiter.proofs.SetLaws.{Part}
+use Rattle.arbiter.proofs.PastLaws.{set-law, opened-leads}
 
 -- ---- what the callees ensure
 
@@ -271,14 +272,8 @@ circle-law h k s c es et em inside was-open = circle-tested (h .free) (h .leads)
 
 -- the code takes its words out of the list
 pub altered-law : {words : List ℕ} (h : Held) (s : ℕ) → Part (h .sets) (s * 16 + 4) words → altered h s ≡ not (empty words)
-unfolding altered word-at
-altered-law {words} h s t =
-    or-false (not (empty (tab 4 own-writes)))
-    ∙ ap (λ (l : List ℕ). not (empty l))
-    (tab-same 4 own-writes (λ i. getD (h .sets) (s * 16 + 4 + i) 0) (λ i q. ap (λ (n : ℕ). getD (h .sets) n 0) (sym (add-assoc (s * 16) 4 i))) ∙ sym (part-tab t))
-  where
-    own-writes : ℕ → ℕ
-    own-writes i = getD (h .sets) (s * 16 + (4 + i)) 0
+unfolding altered
+altered-law h s t = or-false (not (empty (set-at h s 4))) ∙ ap (λ (l : List ℕ). not (empty l)) (set-law h s 4 t)
 
 -- ---- the codes of any state, by what the tests come to
 
@@ -348,16 +343,18 @@ module _ {h : Held} {j c : ℕ} {r : Moved} where
 
 -- ---- an open that is granted
 
-pub does-open-granted : {h : Held} {j c : ℕ} {numbers leads sets : List ℕ} → h .free < 2 ^ 32 → h .next < 4294967296 → (ones (h .free) ≡ 0 → ⊥)
-    → numbers ≡ put (h .numbers) (slot (h .free)) (h .next % 4294967296) → leads ≡ struck (h .leads) (slot (h .free)) → sets ≡ blanked (h .sets) (slot (h .free))
+pub does-open-granted : {h : Held} {j c leaders : ℕ} {numbers leads₁ leads sets : List ℕ} → h .free < 2 ^ 32 → h .next < 4294967296 → (ones (h .free) ≡ 0 → ⊥)
+    → numbers ≡ put (h .numbers) (slot (h .free)) (h .next % 4294967296)
+    → leaders ≡ mask-of 32 (λ i. bit (4294967295 - h .free) i && has-past (sets-only (h .sets)) i)
+    → leads₁ ≡ struck (h .leads) (slot (h .free)) → leads ≡ gained leads₁ (bit leaders) (2 ^ slot (h .free)) → sets ≡ blanked (h .sets) (slot (h .free))
     → Does h an-open j c
     (record { next = h .next + 1; free = bitAnd (h .free) (4294967295 - mark (slot (h .free))); answer = Granted (record { 0 = h .next % 4294967296 }) })
     numbers leads sets
 unfolding moved opened-at number-at leads-at job-of
-does-open-granted {h} {j} {c} fits q ne ns ls ss =
+does-open-granted {h} {j} {c} fits q ne ns eb ls ms ss =
     does-by 0 (code-open h j c (lt-leb 4294967296 (h .next) q) (count-full h fits ∙ ne-eqb (ones (h .free)) 0 ne)) (λ i. record { code = 0; job = number i })
     (lent-same (add-one (h .next)) (and-others 32 (h .free) (slot (h .free)) fits inside)
-    (ns ∙ ap (put (h .numbers) (slot (h .free))) number) ls ss
+    (ns ∙ ap (put (h .numbers) (slot (h .free))) number) (opened-leads h (slot (h .free)) fits (is-true (lowest-mark 32 (h .free) fits (some-free ne) .there)) eb ls ms) ss
     ∙ ap (λ (o : Option ℕ). with-slot o (λ s. opened-at h s) h) (sym (free-first h fits (some-free ne))))
   where
     inside : slot (h .free) < 32

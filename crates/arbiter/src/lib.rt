@@ -11,8 +11,8 @@ ghost use lib.ListN.{length, getD, take, drop};
 ghost use Rattle.marks.specs.Marks.{bit, mask-of, tab};
 ghost use Rattle.history.specs.Formats.{bytes-of, request-of};
 ghost use Rattle.history.specs.Replies.{an-open, a-step, an-end, an-abandon};
-ghost use Rattle.held.specs.Held.{fresh-held, answer-to, after};
-ghost use Rattle.arbiter.specs.Lent.{lent, numbered, kind-of, Does, Steps};
+ghost use Rattle.held.specs.Held.{has-past, fresh-held, answer-to, after};
+ghost use Rattle.arbiter.specs.Lent.{lent, sets-only, numbered, kind-of, Does, Steps};
 ghost use Rattle.arbiter.specs.Replay.{replayed, told, packed};
 ghost use Rattle.arbiter.specs.Rows.{holds, leads-to, reaches, met, touches, theirs, clash-word, past-word, put, struck, gained, blanked, folded, marked-own};
 use cells::Cell;
@@ -343,6 +343,33 @@ fn fold_leads(free: u32, leads: &mut [u32; 32], from: u32, slot: Slot)
     }
 }
 
+// ---- who has a past
+
+// Has the row a past, of reads or of writes?
+fn has_past(sets: &[u64; 512], row: Slot) -> bool
+    requires { ⌜ row .0 < 32 ⌝ }
+    ensures { λ r. ⌜ r ≡ has-past (sets-only (now (sets .entry))) (row .0) ⌝ }
+{
+    let at = (row.0 as usize) * 16;
+    !load(sets, at + 8).union(load(sets, at + 12)).is_empty()
+}
+
+// Those of the slots that have a past.
+fn having_past(slots: u32, sets: &[u64; 512]) -> u32
+    ensures { λ r. ⌜ r ≡ mask-of 32 (λ i. bit slots i && has-past (sets-only (now (sets .entry))) i) ⌝ }
+{
+    let mut found: u32 = 0;
+    let mut todo = slots;
+    while todo != 0 {
+        let i = u32::trailing_zeros(todo);
+        todo &= todo - 1;
+        if has_past(sets, Slot(i)) {
+            found |= 1u32 << i;
+        }
+    }
+    found
+}
+
 // ---- the requests
 
 // A refusal: nothing moves.
@@ -356,6 +383,7 @@ fn refused(next: u64, free: u32, answer: Answer) -> Moved
     }
 }
 
+// Who is open and has a past comes before the new job: some job that it leads to has ended.
 fn open_job(
     next: u64,
     free: u32,
@@ -375,7 +403,9 @@ fn open_job(
     let number = (next % 4294967296) as u32;
     let rows = &mut numbers[..];
     rows[slot.0 as usize] = number;
+    let leaders = having_past(!free, sets);
     strike(leads, slot);
+    lead_to(leads, leaders, slot);
     blank(sets, slot);
     Moved {
         next: next + 1,

@@ -29,7 +29,7 @@ or-all [] = 0
 or-all (w ∷ ws) = or-from w ws
 
 -- an or is 0 exactly where both are
-or-none : (a b : ℕ) → eqb (bitOr a b) 0 ≡ eqb a 0 && eqb b 0
+pub or-none : (a b : ℕ) → eqb (bitOr a b) 0 ≡ eqb a 0 && eqb b 0
 or-none a b =
     let s = or-add-and a b in
     let l = and-le-l a b in

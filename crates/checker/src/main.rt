@@ -62,7 +62,7 @@ fn put_verdict(code: u32, place: u64, entries: u64, out: &mut [u8]) -> usize
         16 => plain::put_counted(
             b"record ",
             place,
-            b" conflicts with an earlier record whose job the order puts later\n",
+            b" must come after an earlier record whose job the order puts later\n",
             out,
             at,
         ),
@@ -107,6 +107,7 @@ fn usage() {
         LOG: records of 8 bytes, at most 4096, and at most 512 opens. A record is the kind (1 open, 2 read, 3 write, 4 end, 5 abandon),\n\
         a byte 0, the cell (2 bytes, 0 to 255, and 0 where no cell is meant) and the job (4 bytes; of an open, the number issued).\n\
         ORDER: 32-bit job numbers. It must name each kept job once; a job is kept unless the log abandons it.\n\
+        It must keep every conflicting pair of records as the log has it, and put each job before the jobs opened after its end.\n\
         Numbers stand low byte first.\n\
         The answer is 'accepted N', N the count of kept jobs, or 'refused CODE PLACE' and a line that says what is wrong.\n\
         Records and entries count from 0.\n",

@@ -3,13 +3,13 @@ ghost use mathlib.Core.Path.{_≡_};
 ghost use mathlib.Core.Bool.{false, cond};
 ghost use mathlib.Core.Option.{none};
 ghost use mathlib.Core.List.{List, []};
-ghost use Prim.Native.Nat.{ℕ, _≤_, _<_};
+ghost use Prim.Native.Nat.{ℕ, _≤_, _<_, max};
 ghost use lib.Dec.{leb};
 ghost use lib.ListN.{length, replicate};
 ghost use Rattle.history.specs.Events.{History, kept, kept-steps};
 ghost use Rattle.verdicts.specs.Verdicts.{first-bad, missing, first-backward, check};
 ghost use Rattle.tallies.specs.Jobs.{Padded, Rises, Finds, Jobs, Blank, Taken, Takes};
-ghost use Rattle.tallies.specs.Places.{Placed, found-at};
+ghost use Rattle.tallies.specs.Places.{Placed, found-at, stands-low};
 ghost use Rattle.checks.specs.Checks.{numbered, request, Reads, Cleared, kept-as};
 use reader::Next;
 use reader::Record;
@@ -106,6 +106,9 @@ fn find(numbers: &[u32; 512], count: usize, job: u32) -> usize
     halve(numbers, count, job)
 }
 
+// An open, a read, a write or an end is told as its job's place times 514, plus its row, plus 1; an abandon as 0. The rows are the reads of cells 0 to 255, then the
+// writes of those, then all opens (512) and all ends (513).
+
 // What an open leaves: its fault, and how many jobs there are then.
 struct Took {
     code: u32,
@@ -117,14 +120,17 @@ fn take_open(
     cell: u32,
     numbers: &mut [u32; 512],
     states: &mut [u8; 512],
+    told: &mut [u32; 4096],
     count: usize,
+    place: usize,
 ) -> Took
-    requires { ⌜ count ≤ 512 ⌝ }
-    ensures { λ r. ⌜ (r .count ≤ 512) × ((h : History) (n : ℕ) (told : List ℕ) → Taken h n (now (numbers .entry)) (now (states .entry)) told count
-        → Takes h n (request 1 0 cell job) (r .code) (now (numbers .exit)) (now (states .exit)) told (r .count)) ⌝ }
+    requires { ⌜ (count ≤ 512) × (place < 4096) ⌝ }
+    ensures { λ r. ⌜ (r .count ≤ 512) × ((h : History) → Taken h place (now (numbers .entry)) (now (states .entry)) (now (told .entry)) count
+        → Takes h place (request 1 0 cell job) (r .code) (now (numbers .exit)) (now (states .exit)) (now (told .exit)) (r .count)) ⌝ }
 {
     let all = &mut numbers[..];
     let stand = &mut states[..];
+    let steps = &mut told[..];
     if cell != 0 {
         return Took {
             code: 12,
@@ -147,6 +153,7 @@ fn take_open(
     }
     all[count] = job;
     stand[count] = 1;
+    steps[place] = (count as u32) * 514 + 513;
     Took {
         code: 0,
         count: count + 1,
@@ -180,7 +187,7 @@ fn take_step(
     if 2 < stand[i] {
         return 13;
     }
-    let mut step = (i as u32) * 512 + cell + 1;
+    let mut step = (i as u32) * 514 + cell + 1;
     if write {
         stand[i] = 2;
         step += 256;
@@ -190,12 +197,21 @@ fn take_step(
 }
 
 // An end: its fault.
-fn take_end(job: u32, cell: u32, numbers: &[u32; 512], states: &mut [u8; 512], count: usize) -> u32
-    requires { ⌜ count ≤ 512 ⌝ }
-    ensures { λ r. ⌜ ((h : History) (n : ℕ) (told : List ℕ) → Taken h n (now (numbers .entry)) (now (states .entry)) told count
-        → Takes h n (request 4 0 cell job) r (now (numbers .entry)) (now (states .exit)) told count) ⌝ }
+fn take_end(
+    job: u32,
+    cell: u32,
+    numbers: &[u32; 512],
+    states: &mut [u8; 512],
+    told: &mut [u32; 4096],
+    count: usize,
+    place: usize,
+) -> u32
+    requires { ⌜ (count ≤ 512) × (place < 4096) ⌝ }
+    ensures { λ r. ⌜ ((h : History) → Taken h place (now (numbers .entry)) (now (states .entry)) (now (told .entry)) count
+        → Takes h place (request 4 0 cell job) r (now (numbers .entry)) (now (states .exit)) (now (told .exit)) count) ⌝ }
 {
     let stand = &mut states[..];
+    let steps = &mut told[..];
     if cell != 0 {
         return 12;
     }
@@ -207,6 +223,7 @@ fn take_end(job: u32, cell: u32, numbers: &[u32; 512], states: &mut [u8; 512], c
         return 13;
     }
     stand[i] = 3;
+    steps[place] = (i as u32) * 514 + 514;
     0
 }
 
@@ -260,7 +277,7 @@ fn take_record(
     let job = r.job;
     let cell = r.cell;
     match kind {
-        1 => take_open(job, cell, numbers, states, count),
+        1 => take_open(job, cell, numbers, states, told, count, place),
         2 => Took {
             code: take_step(false, job, cell, numbers, states, told, count, place),
             count: count,
@@ -270,7 +287,7 @@ fn take_record(
             count: count,
         },
         4 => Took {
-            code: take_end(job, cell, numbers, states, count),
+            code: take_end(job, cell, numbers, states, told, count, place),
             count: count,
         },
         5 => Took {
@@ -428,6 +445,37 @@ pub fn all_placed(states: &[u8; 512], placed: &[usize; 512], count: usize) -> Ke
 
 // ---- pairs that run backward
 
+// The higher of two places.
+fn higher(a: usize, b: usize) -> usize
+    ensures { λ r. ⌜ r ≡ max a b ⌝ }
+{
+    if a < b {
+        return b;
+    }
+    a
+}
+
+// Has a row that a step at this row looks at seen a place above that of its job?
+fn stands_low(seen: &[usize; 514], row: usize, place: usize) -> bool
+    requires { ⌜ row < 514 ⌝ }
+    ensures { λ r. ⌜ r ≡ stands-low (now (seen .entry)) row place ⌝ }
+{
+    let all = &seen[..];
+    if row < 256 {
+        return place < all[row + 256];
+    }
+    if row < 512 {
+        if place < all[row - 256] {
+            return true;
+        }
+        return place < all[row];
+    }
+    if row == 512 {
+        return place < all[513];
+    }
+    false
+}
+
 // The lowest record, of the first n, that is the later one of such a pair, or n.
 fn first_turned(told: &[u32; 4096], n: usize, states: &[u8; 512], placed: &[usize; 512]) -> usize
     requires { ⌜ n ≤ 4096 ⌝ }
@@ -437,29 +485,19 @@ fn first_turned(told: &[u32; 4096], n: usize, states: &[u8; 512], placed: &[usiz
     let steps = &told[..];
     let stand = &states[..];
     let places = &placed[..];
-    let mut reads: [usize; 256] = [0; 256];
-    let mut writes: [usize; 256] = [0; 256];
+    let mut seen: [usize; 514] = [0; 514];
     let mut i: usize = 0;
     while i < n {
         let step = steps[i];
         if step != 0 {
-            let job = ((step - 1) / 512 % 512) as usize;
-            let cell = ((step - 1) % 256) as usize;
+            let job = ((step - 1) / 514 % 512) as usize;
+            let row = ((step - 1) % 514) as usize;
             let place = places[job];
             if stand[job] != 4 {
-                if place < writes[cell] {
+                if stands_low(&seen, row, place) {
                     return i;
                 }
-                if (step - 1) / 256 % 2 == 1 {
-                    if place < reads[cell] {
-                        return i;
-                    }
-                    writes[cell] = place;
-                } else {
-                    if reads[cell] < place {
-                        reads[cell] = place;
-                    }
-                }
+                seen[row] = higher(place, seen[row]);
             }
         }
         i += 1;

@@ -18,9 +18,8 @@ use Rattle.graph.specs.Lists.{_∈_}
 use Rattle.marks.specs.Marks.{bit, mask-of, without, tab}
 use Rattle.history.specs.Events.{has}
 use Rattle.history.specs.Replies.{most-open, Request, Reply, want, tests, code-of, job-of, reply-of}
-use Rattle.history.specs.Memory.{meets}
 use Rattle.history.specs.Cases.{open-one, reads, writes, end, abandon, granted, refused, Exchange, _gets_, opens-from, Case, requests-of, replies-of, p-table, own-table, rows}
-use Rattle.held.specs.Held.{Held, word-marks, set-words, row-words, all-words, fresh-held, number-at, leads-at, word-at, open-at, open-slots, cell-at, slot-of, touched, chain-back, altered, facts, opened-at, stepped-at, left-at, ended-at, abandoned-at, free-slot, moved, answer-to, after, answers, after-all}
+use Rattle.held.specs.Held.{Held, word-marks, set-words, row-words, all-words, fresh-held, number-at, leads-at, word-at, open-at, open-slots, cell-at, slot-of, meets, touched, chain-back, altered, facts, has-past, opened-at, stepped-at, left-at, ended-at, abandoned-at, free-slot, moved, answer-to, after, answers, after-all}
 
 -- ---- the cases of the full history
 
@@ -28,7 +27,7 @@ use Rattle.held.specs.Held.{Held, word-marks, set-words, row-words, all-
 unfoldable pub held-answers : Case → List Reply
 unfolding want tests code-of job-of reply-of meets bit without
     fresh-held number-at leads-at word-at open-at open-slots cell-at slot-of touched chain-back altered facts
-    opened-at stepped-at left-at ended-at abandoned-at free-slot moved answer-to after
+    has-past opened-at stepped-at left-at ended-at abandoned-at free-slot moved answer-to after
 held-answers c = answers (fresh-held (c .first)) (requests-of c)
 
 -- in every case of the full history the held rule gives its replies, one by one
@@ -38,7 +37,7 @@ held-p-cases c = rows held-answers replies-of (refl, (refl, (refl, (refl, (refl,
 
 pub held-own-cases : (c : Case) → c ∈ own-table → answers (fresh-held (c .first)) (requests-of c) ≡ replies-of c
 unfolding held-answers
-held-own-cases c = rows held-answers replies-of (refl, (refl, (refl, (refl, (refl, tt)))))
+held-own-cases c = rows held-answers replies-of (refl, (refl, (refl, (refl, (refl, (refl, (refl, (refl, tt))))))))
 
 pub held-cases : (c : Case) → c ∈ p-table ++ own-table → answers (fresh-held (c .first)) (requests-of c) ≡ replies-of c
 held-cases c m = ⊎-elim (held-p-cases c) (held-own-cases c) (List·Memᴰ·append-cases p-table m)
@@ -327,7 +326,7 @@ not-open-ignored =
 abbrev pub past-last-number : MadeUp
 past-last-number = refusal (state 4_294_967_301 (0 ∷ []) (bare 6 [] ∷ [])) open-one 6
 
--- an open blanks its row but for the number, and strikes its mark in every row, open or not; nothing else changes
+-- an open blanks its row but for the number, and strikes its mark in every row, open or not; nothing else changes. No row that is open has a past
 abbrev pub open-blanks : MadeUp
 open-blanks =
     record {
@@ -341,6 +340,27 @@ open-blanks =
       asked = open-one;
       answered = granted 9;
       left = state 10 (0 ∷ 1 ∷ 2 ∷ []) (with-own 6 (0 ∷ 2 ∷ 3 ∷ []) (5 ∷ []) [] ∷ bare 9 [] ∷ bare 8 [] ∷ with-past 4 (2 ∷ []) (5 ∷ []) (6 ∷ []) ∷ []);
+    }
+
+-- an open slot that has a past, of reads or of writes, comes to lead to the new job and keeps its other leads, slots 0 and 2. Slot 3 has steps of its own alone and slot 4 is
+-- not open: they do not, and a mark that they had is struck
+abbrev pub open-led-to : MadeUp
+open-led-to =
+    record {
+      before =
+          state 9 (0 ∷ 2 ∷ 3 ∷ [])
+          (
+          with-past 5 [] (0 ∷ []) [] ∷ with-past 6 (0 ∷ []) (7 ∷ []) []
+          ∷ with-past 7 (0 ∷ 1 ∷ 4 ∷ []) [] (255 ∷ []) ∷ with-own 8 (1 ∷ 2 ∷ []) (5 ∷ []) (6 ∷ []) ∷ with-past 4 (0 ∷ 1 ∷ []) (5 ∷ []) (6 ∷ []) ∷ []
+          );
+      asked = open-one;
+      answered = granted 9;
+      left =
+          state 10 (0 ∷ 1 ∷ 2 ∷ 3 ∷ [])
+          (
+          with-past 5 (1 ∷ []) (0 ∷ []) [] ∷ bare 9 []
+          ∷ with-past 7 (0 ∷ 1 ∷ 4 ∷ []) [] (255 ∷ []) ∷ with-own 8 (2 ∷ []) (5 ∷ []) (6 ∷ []) ∷ with-past 4 (0 ∷ []) (5 ∷ []) (6 ∷ []) ∷ []
+          );
     }
 
 -- an end hands own, past and the leads to open slots on to the open slots that lead to it, 1 and 4, and to no other; its mark is struck in every
@@ -391,12 +411,12 @@ made-up-table =
     one-number-twice ∷ one-number-ended ∷ number-not-open
     ∷ leads-to-itself ∷ leads-to-itself-cell ∷ leads-to-itself-ends ∷ old-circle ∷ circle-beside
     ∷ held-and-new ∷ past-of-asker ∷ past-of-other ∷ not-open-ignored
-    ∷ past-last-number ∷ open-blanks ∷ end-hands-on ∷ abandon-strikes ∷ abandon-barred ∷ []
+    ∷ past-last-number ∷ open-blanks ∷ open-led-to ∷ end-hands-on ∷ abandon-strikes ∷ abandon-barred ∷ []
 
 -- every made-up state of the table gives the answer as written
 pub made-up-answers : (m : MadeUp) → m ∈ made-up-table → answer-to (held-of (m .before)) (m .asked) ≡ m .answered
 unfolding made-up-answer
-made-up-answers m = rows made-up-answer (λ m. m .answered) (refl, (refl, (refl, (refl, (refl, (refl, (refl, (refl, (refl, (refl, (refl, (refl, (refl, (refl, (refl, (refl, (refl, tt)))))))))))))))))
+made-up-answers m = rows made-up-answer (λ m. m .answered) (refl, (refl, (refl, (refl, (refl, (refl, (refl, (refl, (refl, (refl, (refl, (refl, (refl, (refl, (refl, (refl, (refl, (refl, tt))))))))))))))))))
 
 -- and leaves the next state as written: the next number, the free slots, every number, every lead, and the words of the first six rows. No row of the
 -- table uses a slot above 4. The whole 512 words are compared in crate `made` (`made-up-states`), apart, so that an edit of the rule is refused sooner
@@ -404,4 +424,4 @@ pub made-up-rows : (m : MadeUp) → m ∈ made-up-table → first-rows (after (h
 unfolding made-up-next
 made-up-rows m =
     rows (λ m. first-rows (made-up-next m)) (λ m. first-rows (held-of (m .left)))
-    (refl, (refl, (refl, (refl, (refl, (refl, (refl, (refl, (refl, (refl, (refl, (refl, (refl, (refl, (refl, (refl, (refl, tt)))))))))))))))))
+    (refl, (refl, (refl, (refl, (refl, (refl, (refl, (refl, (refl, (refl, (refl, (refl, (refl, (refl, (refl, (refl, (refl, (refl, tt))))))))))))))))))

@@ -18,9 +18,8 @@ use Rattle.graph.specs.Lists.{only}
 use Rattle.graph.specs.Reach.{reach}
 use Rattle.marks.specs.Marks.{bit, mask-of, without, tab, upto}
 use Rattle.marks.specs.Words.{empty}
-use Rattle.history.specs.Events.{Kind, read, write, kinds, alters}
+use Rattle.history.specs.Events.{Kind, read, write, kinds, alters, kinds-clash}
 use Rattle.history.specs.Replies.{most-open, Request, Reply, Want, an-open, a-step, an-end, an-abandon, nothing, want, Facts, code-of, reply-of}
-use Rattle.history.specs.Memory.{meets}
 
 pub record Held : Type 0 where
   pub next : ℕ
@@ -112,6 +111,10 @@ at-slot (some s) f = f s
 unfoldable pub slot-of : Held → ℕ → Option ℕ
 slot-of h j = first-in (only (λ i. eqb (number-at h i) j) (open-slots h))
 
+-- sets of cells, one for each kind, clash with a later step of kind k on cell c
+unfoldable pub meets : (Kind → ℕ → Bool) → Kind → ℕ → Bool
+meets f k c = some-of (λ l. f l c && kinds-clash l k) kinds
+
 -- slot i comes to lead to slot s at its step: another slot's own clashes with it, or any slot's past does, s's too
 unfoldable pub touched : Held → Kind → ℕ → ℕ → ℕ → Bool
 touched h k s c i = (not (eqb i s) && meets (own-at h i) k c) || meets (past-at h i) k c
@@ -136,14 +139,18 @@ facts h =
 
 -- ---- moving a state: what a grant leaves, number by number
 
--- the new job goes into slot s: its row is blank but for the number, and no row leads to it
+-- a past set is not empty. Of a state that requests give: the slot leads to some job that has ended
+unfoldable pub has-past : Held → ℕ → Bool
+has-past h i = some-of (λ k. not (empty (set-at h i (past-place + set-place k)))) kinds
+
+-- the new job goes into slot s: its row is blank but for the number, the open rows that have a past lead to it, and no other row does
 unfoldable pub opened-at : Held → ℕ → Held
 opened-at h s =
     record {
       next = suc (h .next);
       free = without (h .free) s;
       numbers = tab most-open (λ i. cond (eqb i s) (h .next) (number-at h i));
-      leads = tab most-open (λ i. cond (eqb i s) 0 (without (leads-at h i) s));
+      leads = tab most-open (λ i. cond (eqb i s) 0 (let n = without (leads-at h i) s in cond (open-at h i && has-past h i) (bitOr n (2 ^ s)) n));
       sets = tab all-words (λ w. cond (eqb (w / row-words) s) 0 (getD (h .sets) w 0));
     }
 

@@ -14,12 +14,12 @@ use lib.ListN.{length}
 use lib.Pow.{pow-lt}
 use Rattle.graph.specs.Decide.{not-test, test-true, test-false, eq-test, answer, T-and, is-false, false-is, chosen, cond-below, cond-zero}
 use Rattle.graph.specs.Lists.{_∈_, here, only, only-keeps, only-from, only-both, Before, before-from-only}
-use Rattle.marks.specs.Marks.{bit, mask-of, upto}
+use Rattle.marks.specs.Marks.{bit, mask-of, without, upto}
 use Rattle.marks.specs.MarkLaws.{length-tab, upto-has, upto-from, upto-rises, bit-zero, bit-pow, or-unmarked, and-unmarked, without-below, without-zero, without-struck, without-unmarked, mask-lt}
 use Rattle.history.specs.Events.{Kind}
 use Rattle.history.specs.Replies.{cells, most-open, numbers, Request, Want, an-open, want, first-of, tests, code-of}
 use Rattle.history.specs.Granted.{below-bound, passed}
-use Rattle.held.specs.Held.{Held, row-words, past-place, all-words, fresh-held, number-at, leads-at, word-at, open-at, open-slots, touched, first-in, facts, opened-at, stepped-at, left-at, with-slot, free-slot, moved, after, after-all}
+use Rattle.held.specs.Held.{Held, row-words, past-place, all-words, fresh-held, number-at, leads-at, word-at, open-at, open-slots, touched, first-in, facts, has-past, opened-at, stepped-at, left-at, with-slot, free-slot, moved, after, after-all}
 use Rattle.held.specs.HeldMoves.{own-word, read-tab, number-opened, leads-opened, leads-stepped, number-left, leads-left, row-opened, row-stepped, row-left, Fits, fresh-fits, opened-fits, stepped-fits, left-fits, Moves, kept-after, kept-after-all}
 use Rattle.held.specs.HeldLaws.{own-inside, opened-open-at, left-open-at}
 
@@ -52,7 +52,10 @@ module _ {h : Held} (r : Ranges h) (s : ℕ) (q : s < most-open) where
         leads-count = refl;
         word-count = refl;
         number = λ i p. below-as (number-opened h s i p) (cond-below (eqb i s) small (r .number i p));
-        leads = λ i p. below-as (leads-opened h s i p) (cond-below (eqb i s) (omega arith) (without-below (leads-at h i) s most-open (r .leads i p)));
+        leads = λ i p.
+            let struck = without-below (leads-at h i) s most-open (r .leads i p) in
+            below-as (leads-opened h s i p)
+            (cond-below (eqb i s) (omega arith) (cond-below (open-at h i && has-past h i) (or-lt most-open (without (leads-at h i) s) (2 ^ s) struck (pow-lt q)) struck));
         words = opened-fits (r .words) s;
       }
 
@@ -167,11 +170,15 @@ module _ {h : Held} (b : Blank h) (s : ℕ) (q : s < most-open) where
             let g = b .row i p (z .0) in
             record {
               number = number-opened h s i p ∙ cond-out _ _ (z .1) ∙ g .number;
-              leads = leads-opened h s i p ∙ cond-zero (eqb i s) refl (without-zero (leads-at h i) s (g .leads));
+              leads =
+                  leads-opened h s i p
+                  ∙ cond-zero (eqb i s) refl (cond-out _ _ (ap (λ (b : Bool). b && has-past h i) (z .0)) ∙ without-zero (leads-at h i) s (g .leads));
               word = λ o k. row-opened h s i o p k ∙ cond-zero (eqb i s) refl (g .word o k);
               struck = λ x k.
+                  let lacks = without-unmarked (leads-at h x) s i (g .struck x k) in
                   ap (λ (n : ℕ). bit n i) (leads-opened h s x k)
-                  ∙ cond-unmarked (eqb x s) 0 _ i (bit-zero i) (without-unmarked (leads-at h x) s i (g .struck x k));
+                  ∙ cond-unmarked (eqb x s) 0 _ i (bit-zero i)
+                  (cond-unmarked (open-at h x && has-past h x) _ _ i (or-unmarked (without (leads-at h x) s) (2 ^ s) i lacks (bit-pow s i ∙ z .1)) lacks);
             };
       }
 

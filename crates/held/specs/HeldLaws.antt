@@ -18,7 +18,7 @@ use Rattle.history.specs.Events.{Kind, read, write}
 use Rattle.history.specs.Replies.{most-open, cells}
 use Rattle.history.specs.Memory.{same-kind}
 use Rattle.history.specs.MemoryLaws.{kind-test}
-use Rattle.held.specs.Held.{Held, word-marks, set-words, row-words, past-place, leads-at, word-at, open-at, open-slots, set-place, cell-at, own-at, past-at, touched, opened-at, stepped-at, left-at}
+use Rattle.held.specs.Held.{Held, word-marks, set-words, row-words, past-place, leads-at, word-at, open-at, open-slots, set-place, cell-at, own-at, past-at, touched, has-past, opened-at, stepped-at, left-at}
 use Rattle.held.specs.HeldMoves.{own-word, leads-opened, leads-stepped, leads-left, row-opened, row-stepped, row-left}
 
 -- ---- marks of numbers that are chosen by a test
@@ -76,12 +76,16 @@ module _ (h : Held) (s i : ℕ) where
   opened-open-at = ap not (bit-without (h .free) s i) ∙ not-and-not (bit (h .free) i) (eqb i s)
 
   module _ (p : i < most-open) where
-    -- the slot leads nowhere, and nothing leads to it
-    pub opened-leads-at : (x : ℕ) → bit (leads-at (opened-at h s) i) x ≡ not (eqb i s) && (not (eqb x s) && bit (leads-at h i) x)
+    -- the slot leads nowhere, and the open slots that have a past lead to it
+    pub opened-leads-at : (x : ℕ) → bit (leads-at (opened-at h s) i) x
+        ≡ not (eqb i s) && ((not (eqb x s) && bit (leads-at h i) x) || (eqb x s && (open-at h i && has-past h i)))
     opened-leads-at x =
+        let b = open-at h i && has-past h i in
+        let n = without (leads-at h i) s in
         ap (λ (n : ℕ). bit n x) (leads-opened h s i p)
-        ∙ blank-bit (eqb i s) (without (leads-at h i) s) x
-        ∙ ap (λ (b : Bool). not (eqb i s) && b) (without-bit (leads-at h i) s x)
+        ∙ blank-bit (eqb i s) (cond b (bitOr n (2 ^ s)) n) x
+        ∙ ap (λ (a : Bool). not (eqb i s) && a) (more-bit b n (2 ^ s) x
+        ∙ ap₂ _||_ (without-bit (leads-at h i) s x) (ap (λ (a : Bool). b && a) (bit-pow s x) ∙ and-comm b (eqb x s)))
 
     cell-opened : (o c : ℕ) → o + c / word-marks < row-words → cell-at (opened-at h s) i o c ≡ not (eqb i s) && cell-at h i o c
     unfolding cell-at

@@ -18,7 +18,7 @@ use Rattle.marks.specs.MarkLaws.{getD-tab, upto-from}
 use Rattle.history.specs.Events.{Kind}
 use Rattle.history.specs.Replies.{cells, most-open, numbers, Request, Want, an-open, a-step, an-end, an-abandon, nothing, want, first-of, tests, code-of}
 use Rattle.history.specs.Granted.{below-bound, passed}
-use Rattle.held.specs.Held.{Held, word-marks, row-words, past-place, all-words, fresh-held, number-at, leads-at, word-at, open-at, open-slots, set-place, touched, first-in, slot-of, facts, opened-at, stepped-at, left-at, ended-at, abandoned-at, with-slot, free-slot, moved, after, after-all}
+use Rattle.held.specs.Held.{Held, word-marks, row-words, past-place, all-words, fresh-held, number-at, leads-at, word-at, open-at, open-slots, set-place, touched, first-in, slot-of, facts, has-past, opened-at, stepped-at, left-at, ended-at, abandoned-at, with-slot, free-slot, moved, after, after-all}
 
 -- ---- what a move leaves
 
@@ -40,7 +40,8 @@ module _ (h : Held) (s : ℕ) where
   unfolding number-at opened-at
   number-opened = read-tab most-open _
 
-  pub leads-opened : (i : ℕ) → i < most-open → leads-at (opened-at h s) i ≡ cond (eqb i s) 0 (without (leads-at h i) s)
+  pub leads-opened : (i : ℕ) → i < most-open
+      → leads-at (opened-at h s) i ≡ cond (eqb i s) 0 (cond (open-at h i && has-past h i) (bitOr (without (leads-at h i) s) (2 ^ s)) (without (leads-at h i) s))
   unfolding leads-at opened-at
   leads-opened = read-tab most-open _
 

@@ -4,7 +4,7 @@
 -- Assumes nothing.
 use mathlib.Core.Path.{_≡_, refl, sym, ap, ap₂, _∙_, subst, subst₂, fun-ext}
 use mathlib.Core.Logic.{_⊎_, inl, inr, ⊎-elim}
-use mathlib.Core.Bool.{Bool, true, false, not, _&&_, _||_, cond, and-comm, or-false}
+use mathlib.Core.Bool.{Bool, true, false, not, _&&_, _||_, cond, and-comm, and-false, or-false}
 use mathlib.Core.Option.{Option, some}
 use mathlib.Core.List.{List, [], _∷_, _++_, List·Memᴰ·not-nil, List·Memᴰ·append-cases, Memᴰ·append-left, Memᴰ·append-right, List·Memᴰ·cases-cons, List·Memᴰ·eq-of-singleton, Memᴰ·cast}
 use Prim.Native.Nat.{ℕ, zero, suc, _+_, _-_, _*_, _/_, _%_, _^_, _≤_, _<_}
@@ -12,7 +12,7 @@ use native.Mathlib.Omega.{arith}
 use lib.Dec.{T, lit<, leb, eqb, T-not, not-T}
 use lib.ListN.{length, length-append}
 use lib.Pow.{pow-pos}
-use Rattle.graph.specs.Decide.{Decides, not-test, eq-test, own-test, read-as, same-test, is-true, true-is, test-true, test-false, T-or-right, by-test, some-of, some-test, some-same, answer}
+use Rattle.graph.specs.Decide.{Decides, not-test, eq-test, own-test, read-as, same-test, is-true, true-is, false-is, test-true, test-false, T-or-right, by-test, some-of, some-test, some-same, answer}
 use Rattle.graph.specs.Lists.{_∈_, here, only, only-from, only-keeps, before-from-only, Once, once-if, strike, strike-keeps, strike-from, strike-once}
 use Rattle.graph.specs.Walk.{Via, one, step}
 use Rattle.graph.specs.Reach.{reach, reach-test}
@@ -20,13 +20,14 @@ use Rattle.marks.specs.Marks.{bit, upto}
 use Rattle.marks.specs.MarkLaws.{getD-tab, tab-member, upto-has, upto-from, bit-zero, bit-others}
 use Rattle.marks.specs.Words.{marked, empty}
 use Rattle.marks.specs.WordLaws.{Fit, empty-test}
-use Rattle.history.specs.Events.{Kind, kinds, clash, alters, Event, History, has, opened, ended, abandoned, kept, open-now}
+use Rattle.history.specs.Events.{Kind, kinds, kinds-clash, alters, does, opening, ending, Event, History, has, opened, ended, abandoned, kept, open-now}
 use Rattle.history.specs.Replies.{cells, most-open, numbers, Request, Want, an-open, a-step, an-end, an-abandon, nothing, want, first-of, tests, code-of, event-of, granted-of}
-use Rattle.history.specs.Memory.{Footprint, Memory, fresh, meets, touches, same-kind, step-in, blank, fold, right, open-in, move, move-all, below, held}
+use Rattle.history.specs.Memory.{Memory, fresh, touches, same-kind, same-deed, step-in, blank, fold, right, open-in, move, move-all, below, held}
 use Rattle.history.specs.TurnLaws.{has-test, open-opened, orderly}
+use Rattle.history.specs.TimeLaws.{meets-does, opening-own, ending-own, ending-leads, opening-leads, past-ended}
 use Rattle.history.specs.Granted.{below-bound, passed}
 use Rattle.history.specs.Exact.{Agree, agree-code, Beside, below-has}
-use Rattle.held.specs.Held.{Held, fresh-held, word-marks, set-words, row-words, number-at, leads-at, word-at, open-at, open-slots, set-place, set-at, cell-at, own-at, past-at, first-in, is-some, at-slot, slot-of, touched, chain-back, altered, facts, opened-at, stepped-at, left-at, takes-over, ended-at, abandoned-at, with-slot, free-slot, moved, after}
+use Rattle.held.specs.Held.{Held, fresh-held, word-marks, set-words, row-words, past-place, number-at, leads-at, word-at, open-at, open-slots, set-place, set-at, cell-at, own-at, past-at, first-in, is-some, at-slot, slot-of, meets, touched, chain-back, altered, facts, has-past, opened-at, stepped-at, left-at, takes-over, ended-at, abandoned-at, with-slot, free-slot, moved, after}
 use Rattle.held.specs.HeldMoves.{number-opened, number-left, Fits, fresh-fits, opened-fits, stepped-fits, left-fits}
 use Rattle.held.specs.HeldLaws.{set-end, slot-from, slot-if, slots-once, slots-full, slots-opened, slots-stepped, slots-left, opened-open-at, opened-leads-at, opened-own-at, opened-past-at, stepped-leads-at, stepped-own-at, stepped-past-at, left-leads-at, left-own-at, left-past-at}
 
@@ -39,9 +40,9 @@ pub record Seen (st : Held) (m : Memory) : Type 0 where
   pub a-job : (i : ℕ) → i ∈ open-slots st → number-at st i ∈ m .jobs
   pub a-slot : (j : ℕ) → j ∈ m .jobs → (i : ℕ) × (i ∈ open-slots st) × (number-at st i ≡ j)
   pub count : length (open-slots st) ≡ length (m .jobs)
-  -- own, past and leads of an open slot are those of its job
-  pub own : (i : ℕ) → i ∈ open-slots st → (k : Kind) (c : ℕ) → c < cells → own-at st i k c ≡ m .own (number-at st i) k c
-  pub past : (i : ℕ) → i ∈ open-slots st → (k : Kind) (c : ℕ) → c < cells → past-at st i k c ≡ m .past (number-at st i) k c
+  -- the reads and writes of own and past of an open slot are those of its job, and so are its leads. Openings and ends are not held
+  pub own : (i : ℕ) → i ∈ open-slots st → (k : Kind) (c : ℕ) → c < cells → own-at st i k c ≡ m .own (number-at st i) (does k) c
+  pub past : (i : ℕ) → i ∈ open-slots st → (k : Kind) (c : ℕ) → c < cells → past-at st i k c ≡ m .past (number-at st i) (does k) c
   pub leads : (i x : ℕ) → i ∈ open-slots st → x ∈ open-slots st → bit (leads-at st i) x ≡ m .leads (number-at st i) (number-at st x)
   -- no word has a mark that is no cell
   pub fits : Fits st
@@ -106,10 +107,10 @@ module _ (st : Held) (j : ℕ) where
 
 -- ---- a step's leads, seen through the slots
 
--- footprints that agree on a cell meet the same steps on it
-meets-same : (f g : Footprint) (k : Kind) (c : ℕ) → ((l : Kind) → f l c ≡ g l c) → meets f k c ≡ meets g k c
+-- sets that agree on a cell meet the same steps on it
+meets-same : (f g : Kind → ℕ → Bool) (k : Kind) (c : ℕ) → ((l : Kind) → f l c ≡ g l c) → meets f k c ≡ meets g k c
 unfolding meets
-meets-same f g k c h = ap (λ (a : Kind → Bool). some-of (λ l. a l && clash l k) kinds) (fun-ext h)
+meets-same f g k c h = ap (λ (a : Kind → Bool). some-of (λ l. a l && kinds-clash l k) kinds) (fun-ext h)
 
 module _ {st : Held} {m : Memory} (seen : Seen st m) where
   -- slots are the same when their numbers are
@@ -118,16 +119,18 @@ module _ {st : Held} {m : Memory} (seen : Seen st m) where
 
   module _ (k : Kind) (s c : ℕ) (p : s ∈ open-slots st) (real : c < cells) where
     -- the slots that a step touches are those of the jobs that it touches
-    touched-same : (i : ℕ) → i ∈ open-slots st → touched st k s c i ≡ touches m k (number-at st s) c (number-at st i)
-    unfolding touched touches
+    touched-same : (i : ℕ) → i ∈ open-slots st → touched st k s c i ≡ touches m (does k) (number-at st s) c (number-at st i)
+    unfolding touched touches meets
     touched-same i o =
+        let j = number-at st i in
         ap₂ (λ (a b : Bool). a || b)
-        (ap₂ (λ (a b : Bool). not a && b) (same-slot i s o p) (meets-same (own-at st i) (m .own (number-at st i)) k c (λ l. seen .own i o l c real)))
-        (meets-same (past-at st i) (m .past (number-at st i)) k c (λ l. seen .past i o l c real))
+        (ap₂ (λ (a b : Bool). not a && b) (same-slot i s o p)
+        (meets-same (own-at st i) (λ l. m .own j (does l)) k c (λ l. seen .own i o l c real) ∙ sym (meets-does (m .own j) c k)))
+        (meets-same (past-at st i) (λ l. m .past j (does l)) k c (λ l. seen .past i o l c real) ∙ sym (meets-does (m .past j) c k))
 
     -- so held and new leads together are those of the memory after the step
     lead-same : (i x : ℕ) → i ∈ open-slots st → x ∈ open-slots st
-        → bit (leads-at st i) x || (eqb x s && touched st k s c i) ≡ step-in m k (number-at st s) c .leads (number-at st i) (number-at st x)
+        → bit (leads-at st i) x || (eqb x s && touched st k s c i) ≡ step-in m (does k) (number-at st s) c .leads (number-at st i) (number-at st x)
     unfolding step-in
     lead-same i x o q =
         ap₂ (λ (a b : Bool). a || b) (seen .leads i x o q) (ap₂ (λ (a b : Bool). a && b) (same-slot x s q p) (touched-same i o))
@@ -186,6 +189,10 @@ set-or-cell {st} f i o p q =
     cell-test : Decides (some-of (cell-at st i o) (below cells)) ((c : ℕ) × (c ∈ below cells) × T (cell-at st i o c))
     cell-test = some-test (λ c. own-test (cell-at st i o c)) (below cells)
 
+-- has the job a read or write in its past?
+abbrev any-past : Memory → ℕ → Bool
+any-past m j = some-of (λ k. some-of (λ c. m .past j (does k) c) (below cells)) kinds
+
 module _ {st : Held} {m : Memory} (seen : Seen st m) where
   -- the slot of a job that is open
   job-slot : (j : ℕ) → j ∈ m .jobs → SlotOf st j
@@ -197,14 +204,22 @@ module _ {st : Held} {m : Memory} (seen : Seen st m) where
   altered-same s p =
       ap (λ (a : Kind → Bool). some-of (λ k. alters k && a k) kinds)
       (fun-ext (λ k. set-or-cell (seen .fits) s (set-place k) (slot-from st p .0) (omega (arith, set-end k))
-      ∙ some-same (own-at st s k) (m .own (number-at st s) k) (below cells) (λ c r. seen .own s p k c (below-from c cells r))))
+      ∙ some-same (own-at st s k) (m .own (number-at st s) (does k)) (below cells) (λ c r. seen .own s p k c (below-from c cells r))))
+
+  -- and a past exactly when its job has a read or write in its past
+  past-same : (i : ℕ) → i ∈ open-slots st → has-past st i ≡ any-past m (number-at st i)
+  unfolding has-past
+  past-same i p =
+      ap (λ (a : Kind → Bool). some-of a kinds)
+      (fun-ext (λ k. set-or-cell (seen .fits) i (past-place + set-place k) (slot-from st p .0) (omega (arith, set-end k))
+      ∙ some-same (past-at st i k) (m .past (number-at st i) (does k)) (below cells) (λ c r. seen .past i p k c (below-from c cells r))))
 
   -- a step closes a chain over slots exactly when it closes one over jobs
   chain-same : (k : Kind) (s c : ℕ) → s ∈ open-slots st → c < cells → chain-back st k s c ≡ held right m .closes k (number-at st s) c
   unfolding chain-back held right
   chain-same k s c p real =
       reach-same seen
-      (λ i x. bit (leads-at st i) x || (eqb x s && touched st k s c i)) (step-in m k (number-at st s) c .leads) (lead-same seen k s c p real) s s p p
+      (λ i x. bit (leads-at st i) x || (eqb x s && touched st k s c i)) (step-in m (does k) (number-at st s) c .leads) (lead-same seen k s c p real) s s p p
 
   -- what the codes ask of the rows is what they ask of the memory
   pub seen-agree : Agree (facts st) (held right m)
@@ -275,8 +290,8 @@ module _ {st : Held} {m : Memory} (seen : Seen st m) (k : Kind) (s c : ℕ) (p :
   was-open {i} o = subst (λ (l : List ℕ). i ∈ l) (slots-stepped st k s c) o
 
   -- a granted step keeps the rows and the memory alike
-  pub seen-step : Seen (stepped-at st k s c) (step-in m k (number-at st s) c)
-  unfolding stepped-at number-at step-in
+  pub seen-step : Seen (stepped-at st k s c) (step-in m (does k) (number-at st s) c)
+  unfolding stepped-at number-at step-in same-deed
   seen-step =
       record {
         next = seen .next;
@@ -302,7 +317,7 @@ over u m j =
       next = m .next;
       jobs = m .jobs;
       own = m .own;
-      past = λ i k c. m .past i k c || (u i && (m .own j k c || m .past j k c));
+      past = λ i d c. m .past i d c || (u i && (m .own j d c || m .past j d c));
       leads = λ i x. m .leads i x || (u i && m .leads j x);
     }
 
@@ -351,10 +366,10 @@ module _ {st : Held} {m : Memory} (seen : Seen st m) (once : Once (m .jobs)) (s 
           count = ap length (slots-left st t s) ∙ shorter;
           own = λ i o k c real.
               let q = other-slot o in
-              blanked (λ n. m .own n k c) o (left-own-at st t s i (slot-from st (q .0) .0) k c real) (seen .own i (q .0) k c real);
+              blanked (λ n. m .own n (does k) c) o (left-own-at st t s i (slot-from st (q .0) .0) k c real) (seen .own i (q .0) k c real);
           past = λ i o k c real.
               let q = other-slot o in
-              blanked (λ n. m .past n k c || (u n && (m .own j k c || m .past j k c))) o (left-past-at st t s i (slot-from st (q .0) .0) k c real)
+              blanked (λ n. m .past n (does k) c || (u n && (m .own j (does k) c || m .past j (does k) c))) o (left-past-at st t s i (slot-from st (q .0) .0) k c real)
               (ap₂ (λ (a b : Bool). a || b) (seen .past i (q .0) k c real)
               (ap₂ (λ (a b : Bool). a && b) (same i (q .0) (q .1)) (ap₂ (λ (a b : Bool). a || b) (seen .own s p k c real) (seen .past s p k c real))));
           leads = λ i x o q.
@@ -375,15 +390,15 @@ module _ {st : Held} {m : Memory} (seen : Seen st m) (once : Once (m .jobs)) (s 
             let c = seen .count in
             omega arith
 
-  -- a granted end keeps the rows and the memory alike
-  pub seen-end : Seen (ended-at st s) (blank (fold m (number-at st s)) (number-at st s))
+  -- what leads to the slot takes over and the slot is left, as the job is
+  seen-folded : Seen (ended-at st s) (blank (fold m (number-at st s)) (number-at st s))
   unfolding ended-at fold
-  seen-end =
+  seen-folded =
       seen-left (takes-over st s) (λ n. m .leads n (number-at st s)) (λ i o ne.
       ap₂ (λ (a b : Bool). a && (not b && bit (leads-at st i) s)) (is-true {b = open-at st i} (slot-from st o .1)) (test-false (eq-test i s) ne)
       ∙ seen .leads i s o p)
 
-  -- and so does a granted abandon, where none takes over
+  -- a granted abandon keeps the rows and the memory alike: none takes over
   pub seen-abandon : Seen (abandoned-at st s) (blank m (number-at st s))
   unfolding abandoned-at
   seen-abandon =
@@ -392,17 +407,47 @@ module _ {st : Held} {m : Memory} (seen : Seen st m) (once : Once (m .jobs)) (s 
     where
       none-over : (j : ℕ) → over (λ n. false) m j ≡ m
       none-over j =
-          λ d. record { next = m .next; jobs = m .jobs; own = m .own; past = λ i k c. or-false (m .past i k c) d; leads = λ i x. or-false (m .leads i x) d }
+          λ d. record { next = m .next; jobs = m .jobs; own = m .own; past = λ i e c. or-false (m .past i e c) d; leads = λ i x. or-false (m .leads i x) d }
+
+-- the mark of a job's end is no read, no write and no lead: the rows are the memory with it too
+seen-marked : {st : Held} {m : Memory} → Seen st m → (j : ℕ) → Seen st (step-in m ending j 0)
+unfolding step-in
+seen-marked {st} {m} seen j =
+    record {
+      next = seen .next;
+      apart = seen .apart;
+      a-job = seen .a-job;
+      a-slot = seen .a-slot;
+      count = seen .count;
+      own = λ i o k c real. seen .own i o k c real ∙ sym (ending-own m j (number-at st i) k c);
+      past = seen .past;
+      leads = λ i x o p. seen .leads i x o p ∙ sym (ending-leads m j (number-at st i) (number-at st x));
+      fits = seen .fits;
+    }
+
+-- so a granted end keeps the two alike
+pub seen-end : {st : Held} {m : Memory} → Seen st m → Once (m .jobs) → (s : ℕ) → s ∈ open-slots st
+    → Seen (ended-at st s) (blank (fold (step-in m ending (number-at st s) 0) (number-at st s)) (number-at st s))
+unfolding step-in
+seen-end {st} seen once s p = seen-folded (seen-marked seen (number-at st s)) once s p
 
 -- ---- an open
 
 -- a number that no table of the memory knows
 pub record Unused (m : Memory) (n : ℕ) : Type 0 where
   pub not-open : n ∈ m .jobs → ⊥
-  pub no-own : (k : Kind) (c : ℕ) → m .own n k c ≡ false
-  pub no-past : (k : Kind) (c : ℕ) → m .past n k c ≡ false
+  pub no-own : (k : Kind) (c : ℕ) → m .own n (does k) c ≡ false
+  pub no-past : (k : Kind) (c : ℕ) → m .past n (does k) c ≡ false
   pub no-leads : (x : ℕ) → m .leads n x ≡ false
   pub not-led : (i : ℕ) → m .leads i n ≡ false
+
+-- the memory with the next job open
+abbrev opened-in : Memory → Memory
+opened-in m = step-in (open-in m (m .next)) opening (m .next) 0
+
+-- its leads, told by reads and writes alone
+abbrev OpenLeads : Memory → Type 0
+OpenLeads m = (i x : ℕ) → opened-in m .leads i x ≡ m .leads i x || (eqb x (m .next) && any-past m i)
 
 module _ {first : ℕ} {h : History} {m : Memory} (b : Beside first h m) where
   -- the number that is next was never issued
@@ -413,11 +458,17 @@ module _ {first : ℕ} {h : History} {m : Memory} (b : Beside first h m) where
   next-unused =
       record {
         not-open = λ o. unissued (subst (λ (l : List ℕ). m .next ∈ l) (b .tells .jobs) o);
-        no-own = λ k c. test-false (b .tells .own (m .next) k c) (λ r. unissued (r .is-open));
-        no-past = λ k c. test-false (b .tells .past (m .next) k c) (λ r. unissued (r .is-open));
+        no-own = λ k c. test-false (b .tells .own (m .next) (does k) c) (λ r. unissued (r .is-open));
+        no-past = λ k c. test-false (b .tells .past (m .next) (does k) c) (λ r. unissued (r .is-open));
         no-leads = λ x. test-false (b .tells .leads (m .next) x) (λ r. unissued (r .from-open));
         not-led = λ i. test-false (b .tells .leads i (m .next)) (λ r. unissued (r .to-open));
       }
+
+  -- an open makes those jobs lead to the new one that have a read or write in their past
+  next-led : OpenLeads m
+  next-led i x =
+      let o = orderly h (b .sound .turns) in
+      opening-leads o (b .tells) (m .next) i x ∙ ap (λ (a : Bool). m .leads i x || (eqb x (m .next) && a)) (past-ended o (b .tells) i)
 
   -- no job is open twice
   jobs-once : Once (m .jobs)
@@ -429,7 +480,7 @@ module _ {first : ℕ} {h : History} {m : Memory} (b : Beside first h m) where
       let q = orderly h (b .sound .turns) .rising x x (before-from-only (λ j. not (has (abandoned h) j)) (opened h) k) in
       omega arith))
 
-module _ {st : Held} {m : Memory} (seen : Seen st m) (unused : Unused m (m .next)) (s : ℕ) (p : s < most-open) (shut : T (open-at st s) → ⊥) where
+module _ {st : Held} {m : Memory} (seen : Seen st m) (unused : Unused m (m .next)) (led : OpenLeads m) (s : ℕ) (p : s < most-open) (shut : T (open-at st s) → ⊥) where
   still-open : {i : ℕ} → i ∈ open-slots st → (i ∈ open-slots (opened-at st s)) × (i ≡ s → ⊥)
   still-open {i} o = strike-from s (open-slots (opened-at st s)) (subst (λ (l : List ℕ). i ∈ l) (slots-opened st s shut) o)
 
@@ -464,9 +515,34 @@ module _ {st : Held} {m : Memory} (seen : Seen st m) (unused : Unused m (m .next
   inside : {i : ℕ} → i ∈ open-slots (opened-at st s) → i < most-open
   inside o = slot-from (opened-at st s) o .0
 
+  -- the new slot is the one with the new number
+  is-new : {x : ℕ} → x ∈ open-slots (opened-at st s) → eqb x s ≡ eqb (number-at (opened-at st s) x) (m .next)
+  is-new {x} q =
+      same-test (eq-test x s) (eq-test (number-at (opened-at st s) x) (m .next)) new-number
+      (λ e. ⊎-elim (λ a. a) (λ a. absurd (new-differs refl a (new-number refl ∙ sym e))) (new-or-old q))
+
+  -- the next number has no past
+  no-past-yet : any-past m (m .next) ≡ false
+  no-past-yet =
+      test-false (some-test (λ k. some-test (λ c. own-test (m .past (m .next) (does k) c)) (below cells)) kinds)
+      (λ r. false-is (unused .no-past (r .0) (r .2 .0)) (r .2 .2))
+
+  -- the open slots that have a past come to lead to the new one
+  led-same : {i x : ℕ} → i ∈ open-slots (opened-at st s) → x ∈ open-slots (opened-at st s)
+      → bit (leads-at (opened-at st s) i) x ≡ opened-in m .leads (number-at (opened-at st s) i) (number-at (opened-at st s) x)
+  led-same {i} {x} o q =
+      let y = number-at (opened-at st s) x in
+      filled (λ n. m .leads n y || (eqb y (m .next) && any-past m n)) o
+      (ap₂ (λ (a b : Bool). a || (eqb y (m .next) && b)) (unused .no-leads y) no-past-yet ∙ and-false (eqb y (m .next)))
+      (opened-leads-at st s i (inside o) x)
+      (λ a. ap₂ (λ (a b : Bool). a || b)
+      (filled (λ n. m .leads (number-at st i) n) q (unused .not-led (number-at st i)) refl (λ b. seen .leads i x a b))
+      (ap₂ (λ (a b : Bool). a && b) (is-new q) (ap₂ (λ (a b : Bool). a && b) (is-true {b = open-at st i} (slot-from st a .1)) (past-same seen i a))))
+      ∙ sym (led (number-at (opened-at st s) i) y)
+
   -- a granted open keeps the rows and the memory alike
-  pub seen-open : Seen (opened-at st s) (open-in m (m .next))
-  unfolding opened-at open-in
+  pub seen-open : Seen (opened-at st s) (opened-in m)
+  unfolding opened-at open-in step-in
   seen-open =
       record {
         next = ap suc (seen .next);
@@ -484,12 +560,12 @@ module _ {st : Held} {m : Memory} (seen : Seen st m) (unused : Unused m (m .next
             (λ a. (s, new-open, new-number refl ∙ sym (List·Memᴰ·eq-of-singleton a)))
             (List·Memᴰ·append-cases (m .jobs) o);
         count = longer;
-        own = λ i o k c real. filled (λ n. m .own n k c) o (unused .no-own k c) (opened-own-at st s i (inside o) k c real) (λ q. seen .own i q k c real);
-        past = λ i o k c real. filled (λ n. m .past n k c) o (unused .no-past k c) (opened-past-at st s i (inside o) k c real) (λ q. seen .past i q k c real);
-        leads = λ i x o q.
-            let y = number-at (opened-at st s) x in
-            filled (λ n. m .leads n y) o (unused .no-leads y) (opened-leads-at st s i (inside o) x)
-            (λ a. filled (λ n. m .leads (number-at st i) n) q (unused .not-led (number-at st i)) refl (λ b. seen .leads i x a b));
+        own = λ i o k c real.
+            filled (λ n. m .own n (does k) c) o (unused .no-own k c) (opened-own-at st s i (inside o) k c real) (λ q. seen .own i q k c real)
+            ∙ sym (opening-own (open-in m (m .next)) (m .next) (number-at (opened-at st s) i) k c);
+        past = λ i o k c real.
+            filled (λ n. m .past n (does k) c) o (unused .no-past k c) (opened-past-at st s i (inside o) k c real) (λ q. seen .past i q k c real);
+        leads = λ i x o q. led-same o q;
         fits = opened-fits (seen .fits) s;
       }
     where
@@ -524,7 +600,7 @@ module _ {st : Held} {m : Memory} (seen : Seen st m) where
       let r = job-slot seen j o in
       subst₂ (λ (a : Option ℕ) (n : ℕ). Seen (with-slot a f st) (g n)) (sym (r .meant)) (r .its-number) (h (r .slot) (r .is-open))
 
-  module _ (unused : Unused m (m .next)) (once : Once (m .jobs)) where
+  module _ (unused : Unused m (m .next)) (led : OpenLeads m) (once : Once (m .jobs)) where
     -- what is wanted and gets no code is done alike
     seen-moved : (w : Want) (j c : ℕ) → first-of (tests (held right m) w j c) ≡ 0
         → Seen (moved st w j c) (move-all right m (event-of (held right m .next) w j c))
@@ -533,14 +609,14 @@ module _ {st : Held} {m : Memory} (seen : Seen st m) where
         unfold held in
         let n = length (m .jobs) in
         let r = room (below-bound most-open n (passed (leb most-open n) 4 0 (passed (leb numbers (m .next)) 5 _ z .1) .0)) in
-        subst (λ (a : Option ℕ). Seen (with-slot a (λ s. opened-at st s) st) (open-in m (m .next))) (sym (r .1))
-        (seen-open seen unused (r .0) (r .2) (r .3))
+        subst (λ (a : Option ℕ). Seen (with-slot a (λ s. opened-at st s) st) (opened-in m)) (sym (r .1))
+        (seen-open seen unused led (r .0) (r .2) (r .3))
     seen-moved (a-step k) j c z =
         let a = passed (leb cells c) 1 _ z in
-        at-job (λ s. stepped-at st k s c) (λ n. step-in m k n c) j (passed (not (held right m .is-open j)) 2 _ (a .1) .0)
+        at-job (λ s. stepped-at st k s c) (λ n. step-in m (does k) n c) j (passed (not (held right m .is-open j)) 2 _ (a .1) .0)
         (λ s o. seen-step seen k s c o (below-bound cells c (a .0)))
     seen-moved an-end j c z =
-        at-job (λ s. ended-at st s) (λ n. blank (fold m n) n) j (passed (not (held right m .is-open j)) 2 0 z .0) (seen-end seen once)
+        at-job (λ s. ended-at st s) (λ n. blank (fold (step-in m ending n 0) n) n) j (passed (not (held right m .is-open j)) 2 0 z .0) (seen-end seen once)
     seen-moved an-abandon j c z =
         at-job (λ s. abandoned-at st s) (λ n. blank m n) j (passed (not (held right m .is-open j)) 2 _ z .0) (seen-abandon seen once)
     seen-moved nothing j c z = seen
@@ -552,7 +628,7 @@ unfolding after granted-of
 seen-after {st = st} {m = m} b seen r =
     subst (λ (n : ℕ). Seen (cond (eqb n 0) next st) (move-all right m (cond (eqb code 0) event []))) (sym (agree-code (seen-agree seen) r))
     (by-test (λ g. Seen (cond g next st) (move-all right m (cond g event []))) (eq-test code 0)
-    (λ z. seen-moved seen (next-unused b) (jobs-once b) (want (r .kind)) (r .job) (r .cell) (unfold code-of in passed (not (eqb (r .byte1) 0)) 0 _ z .1))
+    (λ z. seen-moved seen (next-unused b) (next-led b) (jobs-once b) (want (r .kind)) (r .job) (r .cell) (unfold code-of in passed (not (eqb (r .byte1) 0)) 0 _ z .1))
     (λ z. seen))
   where
     code : ℕ

@@ -2,7 +2,7 @@
 -- (`own-cases`) histories of our own that tell apart what no P case does.
 --
 -- A case is a first number, the requests each with the reply expected of it, the order of the history that they leave, the places of the
--- steps in that order's layout, and whether it is the only order. The statement holds every reply, code and job, to what the full history
+-- steps, openings and ends in that order's layout, and whether it is the only order. The statement holds every reply, code and job, to what the full history
 -- gives and to what the bounded memory gives. What `only-one` means is proved in Promises (`tried`).
 -- After them, 6 before 5 (`numbers-before-slots`), and the example of the rules, its bytes too (`rules-replies`, `rules-read`).
 -- Assumes nothing.
@@ -18,7 +18,7 @@ use Rattle.history.specs.Events.{History, opened, ended, abandoned, kept
 use Rattle.history.specs.Replies.{Request, Reply, want, tests, code-of, event-of, job-of, reply-of, granted-of, full, reply, after, replies, history-of}
 use Rattle.history.specs.Formats.{records}
 use Rattle.history.specs.Orders.{layout, order-of}
-use Rattle.history.specs.Memory.{fresh, meets, touches, same-kind, step-in, blank, fold, right, open-in, move, held, held-replies}
+use Rattle.history.specs.Memory.{fresh, meets, touches, same-kind, same-deed, step-in, blank, fold, right, open-in, move, held, held-replies}
 
 -- ---- requests and replies, short
 
@@ -86,7 +86,7 @@ abbrev pub is-only : History → Option (List ℕ) → Bool
 is-only h none = false
 is-only h (some o) = forced (precedes (kept-steps h)) (kept h) o
 
--- the places of the steps in the layout of an order
+-- the places of the steps, openings and ends in the layout of an order
 abbrev pub places : History → Option (List ℕ) → List ℕ
 places h none = []
 places h (some o) = map (λ a. a .at) (layout (kept-steps h) o)
@@ -98,7 +98,7 @@ expected c = record { by-history = replies-of c; by-memory = replies-of c; order
 unfoldable pub computed : Case → Outcome
 unfolding reply reply-of code-of tests want job-of full after granted-of event-of
     opened ended abandoned kept open-now all-steps kept-steps wrote conflict has-circle circular strike order-of lowest-first ready
-    right held move open-in step-in blank fold meets touches same-kind
+    right held move open-in step-in blank fold meets touches same-kind same-deed
 computed c =
     let h = history-of (c .first) (requests-of c) in
     record {
@@ -122,7 +122,7 @@ p1 =
           ∷ writes 2 5 gets granted 2 ∷ writes 1 6 gets granted 1
           ∷ end 2 gets granted 2 ∷ end 1 gets granted 1 ∷ [];
       order = some (1 ∷ 2 ∷ []);
-      laid-out = 2 ∷ 5 ∷ 3 ∷ 4 ∷ [];
+      laid-out = 0 ∷ 2 ∷ 5 ∷ 7 ∷ 1 ∷ 3 ∷ 4 ∷ 6 ∷ [];
       only-one = true;
     }
 
@@ -137,11 +137,12 @@ p2 =
           ∷ writes 2 5 gets granted 2 ∷ writes 1 5 gets refused 7
           ∷ end 2 gets granted 2 ∷ end 1 gets granted 1 ∷ [];
       order = some (1 ∷ 2 ∷ []);
-      laid-out = 2 ∷ 3 ∷ 4 ∷ [];
+      laid-out = 0 ∷ 2 ∷ 6 ∷ 1 ∷ 3 ∷ 4 ∷ 5 ∷ [];
       only-one = true;
     }
 
--- P3: all granted, and the one order there is does not follow the ends: these come as 1, 3, 2
+-- P3: job 2 comes before job 1, which had ended when job 3 was opened; so the write of job 2, after job 3's read, would close the circle 2, 1, 3, 2. The one
+-- order there is does not follow the ends: these come as 1, 3, 2
 abbrev pub p3 : Case
 p3 =
     record {
@@ -150,9 +151,9 @@ p3 =
           open-one gets granted 1 ∷ open-one gets granted 2
           ∷ reads 2 5 gets granted 2 ∷ writes 1 5 gets granted 1 ∷ end 1 gets granted 1
           ∷ open-one gets granted 3 ∷ reads 3 6 gets granted 3 ∷ end 3 gets granted 3
-          ∷ writes 2 6 gets granted 2 ∷ end 2 gets granted 2 ∷ [];
-      order = some (3 ∷ 2 ∷ 1 ∷ []);
-      laid-out = 6 ∷ 2 ∷ 8 ∷ 3 ∷ [];
+          ∷ writes 2 6 gets refused 7 ∷ end 2 gets granted 2 ∷ [];
+      order = some (2 ∷ 1 ∷ 3 ∷ []);
+      laid-out = 1 ∷ 2 ∷ 8 ∷ 0 ∷ 3 ∷ 4 ∷ 5 ∷ 6 ∷ 7 ∷ [];
       only-one = true;
     }
 
@@ -167,7 +168,7 @@ p4 =
           ∷ writes 2 5 gets granted 2 ∷ writes 2 6 gets granted 2 ∷ end 2 gets granted 2
           ∷ writes 1 6 gets refused 7 ∷ writes 1 7 gets granted 1 ∷ [];
       order = some (1 ∷ 2 ∷ []);
-      laid-out = 2 ∷ 6 ∷ 3 ∷ 4 ∷ [];
+      laid-out = 0 ∷ 2 ∷ 6 ∷ 1 ∷ 3 ∷ 4 ∷ 5 ∷ [];
       only-one = true;
     }
 
@@ -183,7 +184,7 @@ p5 =
           ∷ reads 3 5 gets granted 3 ∷ writes 3 8 gets granted 3 ∷ end 3 gets granted 3
           ∷ reads 1 8 gets refused 7 ∷ [];
       order = some (1 ∷ 2 ∷ 3 ∷ []);
-      laid-out = 3 ∷ 4 ∷ 6 ∷ 7 ∷ [];
+      laid-out = 0 ∷ 3 ∷ 1 ∷ 4 ∷ 5 ∷ 2 ∷ 6 ∷ 7 ∷ 8 ∷ [];
       only-one = true;
     }
 
@@ -199,7 +200,7 @@ p6 =
           ∷ writes 3 6 gets granted 3 ∷ reads 1 6 gets refused 7
           ∷ abandon 2 gets granted 2 ∷ reads 1 6 gets granted 1 ∷ [];
       order = some (3 ∷ 1 ∷ []);
-      laid-out = 6 ∷ 3 ∷ 8 ∷ [];
+      laid-out = 2 ∷ 6 ∷ 0 ∷ 3 ∷ 8 ∷ [];
       only-one = true;
     }
 
@@ -213,7 +214,7 @@ p7 =
           ∷ reads 1 5 gets granted 1 ∷ writes 1 5 gets granted 1 ∷ reads 1 5 gets granted 1
           ∷ abandon 1 gets refused 4 ∷ [];
       order = some (1 ∷ []);
-      laid-out = 1 ∷ 2 ∷ 3 ∷ [];
+      laid-out = 0 ∷ 1 ∷ 2 ∷ 3 ∷ [];
       only-one = true;
     }
 
@@ -224,7 +225,7 @@ p8 =
       first = 4_294_967_295;
       exchanges = open-one gets granted 4_294_967_295 ∷ open-one gets refused 6 ∷ [];
       order = some (4_294_967_295 ∷ []);
-      laid-out = [];
+      laid-out = 0 ∷ [];
       only-one = true;
     }
 
@@ -262,7 +263,7 @@ past-of-ended =
           ∷ writes 2 5 gets granted 2 ∷ end 2 gets granted 2
           ∷ reads 1 7 gets refused 7 ∷ [];
       order = some (1 ∷ 2 ∷ 3 ∷ []);
-      laid-out = 7 ∷ 3 ∷ 8 ∷ 4 ∷ 5 ∷ [];
+      laid-out = 0 ∷ 7 ∷ 1 ∷ 3 ∷ 8 ∷ 9 ∷ 2 ∷ 4 ∷ 5 ∷ 6 ∷ [];
       only-one = true;
     }
 
@@ -278,7 +279,7 @@ leads-of-ended =
           ∷ writes 3 6 gets granted 3 ∷ end 2 gets granted 2
           ∷ writes 3 8 gets granted 3 ∷ reads 1 8 gets refused 7 ∷ [];
       order = some (1 ∷ 2 ∷ 3 ∷ []);
-      laid-out = 3 ∷ 4 ∷ 5 ∷ 6 ∷ 8 ∷ [];
+      laid-out = 0 ∷ 3 ∷ 1 ∷ 4 ∷ 5 ∷ 7 ∷ 2 ∷ 6 ∷ 8 ∷ [];
       only-one = true;
     }
 
@@ -294,7 +295,7 @@ chain-abandoned =
           ∷ writes 3 6 gets granted 3 ∷ writes 3 7 gets granted 3 ∷ end 3 gets granted 3
           ∷ abandon 2 gets granted 2 ∷ reads 1 7 gets granted 1 ∷ [];
       order = some (3 ∷ 1 ∷ []);
-      laid-out = 6 ∷ 7 ∷ 3 ∷ 10 ∷ [];
+      laid-out = 2 ∷ 6 ∷ 7 ∷ 8 ∷ 0 ∷ 3 ∷ 10 ∷ [];
       only-one = true;
     }
 
@@ -308,7 +309,53 @@ reads-alone =
           ∷ reads 1 5 gets granted 1 ∷ reads 2 5 gets granted 2
           ∷ reads 2 6 gets granted 2 ∷ reads 1 6 gets granted 1 ∷ [];
       order = some (1 ∷ 2 ∷ []);
-      laid-out = 2 ∷ 5 ∷ 3 ∷ 4 ∷ [];
+      laid-out = 0 ∷ 2 ∷ 5 ∷ 1 ∷ 3 ∷ 4 ∷ [];
+      only-one = false;
+    }
+
+-- job 1 had ended when job 3 was opened; job 2, open all the while, comes before neither, and may read what 3 wrote. No P case tells that
+-- nothing precedes a job in time but a job that has ended
+abbrev pub ended-apart : Case
+ended-apart =
+    record {
+      first = 1;
+      exchanges =
+          open-one gets granted 1 ∷ open-one gets granted 2 ∷ end 1 gets granted 1
+          ∷ open-one gets granted 3 ∷ writes 3 5 gets granted 3
+          ∷ reads 2 5 gets granted 2 ∷ end 3 gets granted 3 ∷ end 2 gets granted 2 ∷ [];
+      order = some (1 ∷ 3 ∷ 2 ∷ []);
+      laid-out = 0 ∷ 2 ∷ 3 ∷ 4 ∷ 6 ∷ 1 ∷ 5 ∷ 7 ∷ [];
+      only-one = true;
+    }
+
+-- job 1 comes before job 2, which had ended when job 3 was opened, so that job 1 may not write what 3 has read; once 3 is abandoned it may
+abbrev pub time-abandoned : Case
+time-abandoned =
+    record {
+      first = 1;
+      exchanges =
+          open-one gets granted 1 ∷ open-one gets granted 2
+          ∷ reads 1 5 gets granted 1 ∷ writes 2 5 gets granted 2 ∷ end 2 gets granted 2
+          ∷ open-one gets granted 3 ∷ reads 3 8 gets granted 3 ∷ writes 1 8 gets refused 7
+          ∷ abandon 3 gets granted 3 ∷ writes 1 8 gets granted 1 ∷ [];
+      order = some (1 ∷ 2 ∷ []);
+      laid-out = 0 ∷ 2 ∷ 8 ∷ 1 ∷ 3 ∷ 4 ∷ [];
+      only-one = true;
+    }
+
+-- openings and ends, which name no cell, do not conflict with steps on cell 0 nor, but for an end with an opening after it, with each other: jobs 2 and 3
+-- come before job 1 though it is opened first, reads cell 0 first and ends first
+abbrev pub cell-zero : Case
+cell-zero =
+    record {
+      first = 1;
+      exchanges =
+          open-one gets granted 1 ∷ open-one gets granted 2 ∷ reads 1 0 gets granted 1 ∷ open-one gets granted 3
+          ∷ reads 2 0 gets granted 2 ∷ writes 2 5 gets granted 2 ∷ writes 3 6 gets granted 3
+          ∷ reads 1 5 gets granted 1 ∷ reads 1 6 gets granted 1 ∷ end 1 gets granted 1
+          ∷ reads 2 0 gets granted 2 ∷ reads 3 0 gets granted 3 ∷ end 3 gets granted 3 ∷ end 2 gets granted 2 ∷ [];
+      order = some (2 ∷ 3 ∷ 1 ∷ []);
+      laid-out = 1 ∷ 4 ∷ 5 ∷ 10 ∷ 13 ∷ 3 ∷ 6 ∷ 11 ∷ 12 ∷ 0 ∷ 2 ∷ 7 ∷ 8 ∷ 9 ∷ [];
       only-one = false;
     }
 
@@ -325,16 +372,16 @@ two-faults =
           ∷ open-one gets granted 1 ∷ writes 1 255 gets granted 1 ∷ end 1 gets granted 1
           ∷ abandon 1 gets refused 3 ∷ [];
       order = some (1 ∷ []);
-      laid-out = 1 ∷ [];
+      laid-out = 0 ∷ 1 ∷ 2 ∷ [];
       only-one = true;
     }
 
 abbrev pub own-table : List Case
-own-table = past-of-ended ∷ leads-of-ended ∷ chain-abandoned ∷ reads-alone ∷ two-faults ∷ []
+own-table = past-of-ended ∷ leads-of-ended ∷ chain-abandoned ∷ reads-alone ∷ ended-apart ∷ time-abandoned ∷ cell-zero ∷ two-faults ∷ []
 
 pub own-cases : (c : Case) → c ∈ own-table → computed c ≡ expected c
 unfolding computed
-own-cases c = rows computed expected (refl, (refl, (refl, (refl, (refl, tt)))))
+own-cases c = rows computed expected (refl, (refl, (refl, (refl, (refl, (refl, (refl, (refl, tt))))))))
 
 -- ---- 6 before 5
 
@@ -363,8 +410,8 @@ rules-example =
           ∷ record { kind = 1; byte1 = 0; cell = 9; job = 9 } gets granted 3
           ∷ reads 1 0 gets refused 3 ∷ [];
       order = some (1 ∷ 2 ∷ 3 ∷ []);
-      laid-out = 2 ∷ 3 ∷ 4 ∷ [];
-      only-one = false;
+      laid-out = 0 ∷ 2 ∷ 6 ∷ 1 ∷ 3 ∷ 4 ∷ 5 ∷ 7 ∷ [];
+      only-one = true;
     }
 
 pub rules-replies : computed rules-example ≡ expected rules-example

@@ -1,6 +1,6 @@
--- The laws of events: conflict goes both ways, no job precedes itself, and the tests of conflict and of precedence decide them.
+-- The laws of events: which pairs clash, no job precedes itself, and the tests of conflict and of precedence decide them.
 --
--- In order: `conflict-back`, `conflict-test`; a precedence from its two steps, and in another list of steps; `no-self`, `precedes-test`.
+-- In order: `altering`, `alters-before`, `alters-after`, `clash-parts`, `ending-calm`; `conflict-test`; a precedence from its two steps, and in another list of steps; `no-self`, `precedes-test`.
 -- Assumes nothing.
 use mathlib.Core.Path.{_≡_, refl, sym, ap, _∙_, subst}
 use mathlib.Core.Logic.{_⊎_, inl, inr, ⊎-elim}
@@ -9,25 +9,64 @@ use Prim.Native.Nat.{ℕ}
 use lib.Dec.{T}
 use Rattle.graph.specs.Decide.{Decides, and-test, or-test, not-test, read-as, eq-test, own-test, some-test}
 use Rattle.graph.specs.Lists.{_∈_, Before, first, after, before-nil, before-cons}
-use Rattle.history.specs.Events.{Kind, read, write, clash, Step, Conflict, conflict, Precedes, precedes}
+use Rattle.history.specs.Events.{Kind, read, write, Deed, does, opening, ending, alters, alters-by, kinds-clash, clash, Step, Conflict, conflict, Precedes, precedes}
 
 -- ---- conflict
 
--- conflict goes both ways, so which of two steps came first does not matter to it
-clash-back : (k l : Kind) → T (clash k l) → T (clash l k)
-clash-back read read t = t
-clash-back read write t = t
-clash-back write read t = t
-clash-back write write t = t
+-- only a read or a write alters its cell
+pub altering : (d : Deed) → T (alters-by d) → (k : Kind) × (d ≡ does k) × T (alters k)
+altering (does k) t = (k, refl, t)
+altering opening t = absurd t
+altering ending t = absurd t
 
-pub conflict-back : {a b : Step} → Conflict a b → Conflict b a
-conflict-back {a} {b} c = record { others = λ e. c .others (sym e); same-cell = sym (c .same-cell); clashes = clash-back (a .kind) (b .kind) (c .clashes) }
+-- what alters its cell clashes with every read and write, after it and before it
+alters-clash : (k l : Kind) → T (alters k) → T (kinds-clash k l)
+alters-clash read l t = absurd t
+alters-clash write read t = tt
+alters-clash write write t = tt
+
+clash-alters : (k l : Kind) → T (alters l) → T (kinds-clash k l)
+clash-alters k read t = absurd t
+clash-alters read write t = tt
+clash-alters write write t = tt
+
+pub alters-before : (d : Deed) {e : Deed} {k : Kind} → e ≡ does k → T (alters-by d) → T (clash d e)
+alters-before d {k = k} q t =
+    let r = altering d t in
+    subst (λ (x : Deed). T (clash d x)) (sym q) (subst (λ (x : Deed). T (clash x (does k))) (sym (r .1)) (alters-clash (r .0) k (r .2)))
+
+pub alters-after : (e : Deed) {d : Deed} {k : Kind} → d ≡ does k → T (alters-by e) → T (clash d e)
+alters-after e {k = k} q t =
+    let r = altering e t in
+    subst (λ (x : Deed). T (clash x e)) (sym q) (subst (λ (x : Deed). T (clash (does k) x)) (sym (r .1)) (clash-alters k (r .0) (r .2)))
+
+-- two deeds clash as a read or write and another, or as an end and an opening
+pub data Clashing : Deed → Deed → Type 0 where
+  as-steps : {k l : Kind} → T (kinds-clash k l) → Clashing (does k) (does l)
+  in-time : Clashing ending opening
+
+pub clash-parts : (d e : Deed) → T (clash d e) → Clashing d e
+clash-parts (does k) (does l) t = as-steps t
+clash-parts (does k) opening t = absurd t
+clash-parts (does k) ending t = absurd t
+clash-parts opening (does l) t = absurd t
+clash-parts opening opening t = absurd t
+clash-parts opening ending t = absurd t
+clash-parts ending (does l) t = absurd t
+clash-parts ending opening t = in-time
+clash-parts ending ending t = absurd t
+
+-- nothing clashes with a later end
+pub ending-calm : (d : Deed) → T (clash d ending) → ⊥
+ending-calm (does k) t = t
+ending-calm opening t = t
+ending-calm ending t = t
 
 -- the test of conflict is right
 pub conflict-test : (a b : Step) → Decides (conflict a b) (Conflict a b)
 unfolding conflict
 conflict-test a b =
-    read-as (and-test (not-test (eq-test (a .job) (b .job))) (and-test (eq-test (a .cell) (b .cell)) (own-test (clash (a .kind) (b .kind)))))
+    read-as (and-test (not-test (eq-test (a .job) (b .job))) (and-test (eq-test (a .cell) (b .cell)) (own-test (clash (a .deed) (b .deed)))))
     (λ r. record { others = r .0; same-cell = r .1 .0; clashes = r .1 .1 })
     (λ c. (c .others, (c .same-cell, c .clashes)))
 

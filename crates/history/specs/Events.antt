@@ -1,7 +1,9 @@
 -- What was granted: events, the kept history, conflict, precedence, circle.
 --
 -- A history is everything granted so far, the oldest first. A step is a granted read or write together with its place in the
--- history, so that two equal requests are two steps. Once a job is abandoned none of its steps counts as kept.
+-- history, so that two equal requests are two steps. The opening and the end of a job stand in the list of steps too: a job precedes
+-- another by a conflict of their reads and writes, or because its end stands before the other's opening (`precedes-exactly` of Promises).
+-- Once a job is abandoned none of its steps counts as kept.
 -- Each relation stands here twice: as a proposition, to be believed, and as a test that computes, joined by a theorem in EventLaws.
 -- Assumes nothing.
 use mathlib.Core.Path.{_≡_}
@@ -23,17 +25,42 @@ pub data Kind : Type 0 where
 abbrev pub kinds : List Kind
 kinds = read ∷ write ∷ []
 
--- the table of clashes: at least one of the two is a write
-abbrev pub clash : Kind → Kind → Bool
-clash read read = false
-clash read write = true
-clash write read = true
-clash write write = true
-
 -- does a step of this kind change its cell, so that its job can no longer be abandoned?
 abbrev pub alters : Kind → Bool
 alters read = false
 alters write = true
+
+-- what a job does at a place of the history: a read or a write, its opening, its end
+pub data Deed : Type 0 where
+  does : Kind → Deed
+  opening ending : Deed
+
+abbrev pub deeds : List Deed
+deeds = does read ∷ does write ∷ opening ∷ ending ∷ []
+
+abbrev pub alters-by : Deed → Bool
+alters-by (does k) = alters k
+alters-by opening = false
+alters-by ending = false
+
+-- the table of clashes of reads and writes: at least one of the two is a write
+abbrev pub kinds-clash : Kind → Kind → Bool
+kinds-clash read read = false
+kinds-clash read write = true
+kinds-clash write read = true
+kinds-clash write write = true
+
+-- the table of clashes, the earlier of the two first: reads and writes by their kinds; an end and an opening after it; nothing else
+abbrev pub clash : Deed → Deed → Bool
+clash (does k) (does l) = kinds-clash k l
+clash (does k) opening = false
+clash (does k) ending = false
+clash opening (does l) = false
+clash opening opening = false
+clash opening ending = false
+clash ending (does l) = false
+clash ending opening = true
+clash ending ending = false
 
 -- each with its job; a step also with its kind and its cell
 pub data Event : Type 0 where
@@ -94,18 +121,21 @@ open-now h = only (λ j. not (has (ended h) j)) (kept h)
 
 -- ---- steps
 
--- a granted read or write, with its place in the history
+-- a granted read or write, an opening or an end, with its place in the history
 pub record Step : Type 0 where
   pub at : ℕ
-  pub kind : Kind
+  pub deed : Deed
   pub job : ℕ
   pub cell : ℕ
 
--- the step that the event at place n is
+abbrev pub step-at : ℕ → Deed → ℕ → ℕ → Step
+step-at n d j c = record { at = n; deed = d; job = j; cell = c }
+
+-- the step that the event at place n is; openings and ends name no cell, and all stand with cell 0
 abbrev pub step-by : ℕ → Event → List Step
-step-by n (opens j) = []
-step-by n (steps k j c) = record { at = n; kind = k; job = j; cell = c } ∷ []
-step-by n (ends j) = []
+step-by n (opens j) = step-at n opening j 0 ∷ []
+step-by n (steps k j c) = step-at n (does k) j c ∷ []
+step-by n (ends j) = step-at n ending j 0 ∷ []
 step-by n (abandons j) = []
 
 -- the steps of events that stand from place n on
@@ -113,7 +143,7 @@ abbrev pub steps-from : ℕ → History → List Step
 steps-from n [] = []
 steps-from n (e ∷ h) = step-by n e ++ steps-from (suc n) h
 
--- every granted step
+-- every granted step, opening and end
 unfoldable pub all-steps : History → List Step
 all-steps h = steps-from zero h
 
@@ -123,18 +153,18 @@ kept-steps h = only (λ s. not (has (abandoned h) (s .job))) (all-steps h)
 
 -- has the job a granted write?
 unfoldable pub wrote : History → ℕ → Bool
-wrote h j = some-of (λ s. eqb (s .job) j && alters (s .kind)) (all-steps h)
+wrote h j = some-of (λ s. eqb (s .job) j && alters-by (s .deed)) (all-steps h)
 
 -- ---- conflict and precedence
 
--- a conflict: steps of two jobs on one cell, of kinds that clash
+-- a conflict of an earlier step and a later one: steps of two jobs on one cell, the deed of the one clashing with that of the other
 pub record Conflict (a b : Step) : Type 0 where
   pub others : a .job ≡ b .job → ⊥
   pub same-cell : a .cell ≡ b .cell
-  pub clashes : T (clash (a .kind) (b .kind))
+  pub clashes : T (clash (a .deed) (b .deed))
 
 unfoldable pub conflict : Step → Step → Bool
-conflict a b = not (eqb (a .job) (b .job)) && (eqb (a .cell) (b .cell) && clash (a .kind) (b .kind))
+conflict a b = not (eqb (a .job) (b .job)) && (eqb (a .cell) (b .cell) && clash (a .deed) (b .deed))
 
 -- i precedes j: in the list some step of i stands before a step of j that is in conflict with it
 pub record Precedes (s : List Step) (i j : ℕ) : Type 0 where

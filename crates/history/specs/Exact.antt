@@ -13,10 +13,11 @@ use lib.Dec.{T, leb, eqb}
 use lib.ListN.{length, length-append}
 use Rattle.graph.specs.Decide.{and-test, eq-test, own-test, same-test, some-test, answer}
 use Rattle.graph.specs.Lists.{_∈_, later}
-use Rattle.history.specs.Events.{Kind, kinds, alters, Event, opens, steps, ends, abandons, History, has, opened, open-now, Step, all-steps, kept-steps, wrote}
+use Rattle.history.specs.Events.{Kind, kinds, alters, Deed, does, alters-by, Event, opens, steps, ends, abandons, History, has, opened, open-now, Step, all-steps, kept-steps, wrote}
 use Rattle.history.specs.Replies.{cells, numbers, most-open, Request, Reply, Want, an-open, a-step, an-end, an-abandon, nothing, want, Facts, first-of, tests, code-of, event-of, job-of, reply-of, granted-of, full, reply, after, replies-from, replies}
 use Rattle.history.specs.Memory.{Memory, fresh, right, open-in, step-in, blank, fold, move, move-all, below, held, held-replies}
 use Rattle.history.specs.Tables.{Tells}
+use Rattle.history.specs.EventLaws.{altering}
 use Rattle.history.specs.CircleLaws.{has-circle-test}
 use Rattle.history.specs.TurnLaws.{opened-grows, stays, has-test, open-not-abandoned, kept-steps-from, kept-steps-if, orderly}
 use Rattle.history.specs.MemoryLaws.{every-kind}
@@ -86,21 +87,22 @@ module _ {first : ℕ} {h : History} {m : Memory} (b : Beside first h m) where
   unfolding held wrote
   written-same j open-job =
       same-test
-      (some-test (λ k. and-test (own-test (alters k)) (some-test (λ c. b .tells .own j k c) (below cells))) kinds)
-      (some-test (λ (x : Step). and-test (eq-test (x .job) j) (own-test (alters (x .kind)))) (all-steps h))
+      (some-test (λ k. and-test (own-test (alters k)) (some-test (λ c. b .tells .own j (does k) c) (below cells))) kinds)
+      (some-test (λ (x : Step). and-test (eq-test (x .job) j) (own-test (alters-by (x .deed)))) (all-steps h))
       (λ r.
       let u = r .2 .1 .2 .touched in
-      (u .step, kept-steps-from h (u .granted) .0, (u .its-job, subst (λ (k : Kind). T (alters k)) (sym (u .its-kind)) (r .2 .0))))
+      (u .step, kept-steps-from h (u .granted) .0, (u .its-job, subst (λ (d : Deed). T (alters-by d)) (sym (u .its-deed)) (r .2 .0))))
       (λ r.
-      let a = r .0 in (
-        a .kind,
-        every-kind (a .kind),
+      let a = r .0 in
+      let w = altering (a .deed) (r .2 .1) in (
+        w .0,
+        every-kind (w .0),
         (
-          r .2 .1,
+          w .2,
           (
             a .cell,
             below-has (a .cell) cells (orderly h (b .sound .turns) .real a (r .1)),
-            record { is-open = open-job; touched = record { step = a; granted = kept-steps-if h (r .1) (λ n. open-not-abandoned h open-job (Memᴰ·cast (sym (r .2 .0)) n)); its-job = r .2 .0; its-kind = refl; its-cell = refl } },
+            record { is-open = open-job; touched = record { step = a; granted = kept-steps-if h (r .1) (λ n. open-not-abandoned h open-job (Memᴰ·cast (sym (r .2 .0)) n)); its-job = r .2 .0; its-deed = w .1; its-cell = refl } },
           ),
         ),
       ))

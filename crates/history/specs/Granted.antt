@@ -4,7 +4,7 @@
 use mathlib.Core.Path.{_≡_, refl, sym, ap, _∙_, subst}
 use mathlib.Core.Logic.{_⊎_, inl, inr, ⊎-elim}
 use mathlib.Core.Bool.{Bool, true, false, not, cond}
-use mathlib.Core.List.{List, [], _∷_, _++_, append-nil, List·Memᴰ·not-nil, List·Memᴰ·eq-of-singleton}
+use mathlib.Core.List.{List, [], _∷_, _++_, append-nil, List·Memᴰ·not-nil, List·Memᴰ·eq-of-singleton, Memᴰ·cast}
 use Prim.Native.Nat.{ℕ, suc, _+_, _≤_, _<_, zero-le}
 use native.Mathlib.Nat.{le-trans}
 use native.Mathlib.Omega.{arith}
@@ -13,12 +13,13 @@ use lib.ListN.{length, length-append}
 use Rattle.graph.specs.Decide.{eq-test, le-test, answer, true-is}
 use Rattle.graph.specs.Lists.{_∈_, only-length, Before, before-nil, before-from-only, strike}
 use Rattle.graph.specs.Walk.{Via, one, step, Any, carry}
-use Rattle.history.specs.Events.{Event, opens, steps, ends, abandons, History, opened-by, opened, kept, open-now, Step, all-steps, kept-steps, Precedes, Circular}
+use Rattle.history.specs.Events.{opening, ending, Event, opens, steps, ends, abandons, History, opened-by, opened, kept, open-now, Step, step-at, all-steps, kept-steps, Precedes, Circular}
 use Rattle.history.specs.Replies.{cells, most-open, numbers, Request, Want, an-open, a-step, an-end, an-abandon, nothing, want, Facts, first-of, tests, code-of, event-of, granted-of, full, after, history-from, history-of}
 use Rattle.history.specs.Turns.{InTurn, Turns}
-use Rattle.history.specs.EventLaws.{precedes-in}
+use Rattle.history.specs.EventLaws.{ending-calm, precedes-in}
 use Rattle.history.specs.CircleLaws.{has-circle-test}
-use Rattle.history.specs.TurnLaws.{opened-grows, stays, which-in, has-test, open-opens, open-steps, open-ends, open-abandons, kept-opens, kept-ends, kept-abandons, orderly, turns-next}
+use Rattle.history.specs.TurnLaws.{opened-grows, stays, which-in, has-test, open-not-abandoned, kept-steps-from, open-opens, open-steps, open-ends, open-abandons, kept-opens, kept-ends, kept-abandons, orderly, turns-next}
+use Rattle.history.specs.MemoryLaws.{calm-last, first-last}
 
 -- a bound that was tested and not reached
 pub below-bound : (n c : ℕ) → (T (leb n c) → ⊥) → c < n
@@ -120,12 +121,19 @@ few-next first h t issued few (steps k j c) p = subst (λ (l : List ℕ). length
 few-next first h t issued few (ends j) p = subst (λ (l : List ℕ). length l ≤ most-open) (sym (open-ends h j)) (le-trans (strike-length j (open-now h)) few)
 few-next first h t issued few (abandons j) p = subst (λ (l : List ℕ). length l ≤ most-open) (sym (open-abandons h j)) (le-trans (strike-length j (open-now h)) few)
 
-no-circle-next : (first : ℕ) (h : History) → (Circular (kept-steps h) → ⊥) → (e : Event) → Proper (full first h) e → Circular (kept-steps (h ++ e ∷ [])) → ⊥
+-- a step was tested; an opening comes before all that its job does, and no step conflicts with an end after it; an abandon only takes steps out
+no-circle-next : (first : ℕ) (h : History) → Turns h → Issued first h → (Circular (kept-steps h) → ⊥) → (e : Event) → Proper (full first h) e → Circular (kept-steps (h ++ e ∷ [])) → ⊥
 unfolding full
-no-circle-next first h none (opens n) p z = none (subst Circular (kept-opens h n) z)
-no-circle-next first h none (steps k j c) p z = p .2 (has-circle-test (kept-steps (h ++ steps k j c ∷ [])) .shows z)
-no-circle-next first h none (ends j) p z = none (subst Circular (kept-ends h j) z)
-no-circle-next first h none (abandons j) p z =
+no-circle-next first h t issued none (opens n) p z =
+    let o = orderly h t in
+    let fresh : n ∈ opened h → ⊥ = λ m. let q = issued n m in let r = p .0 in omega arith in
+    none (first-last (kept-steps h) (step-at (length h) opening n 0) (λ x m e. fresh (Memᴰ·cast (sym e) (o .stepped x (kept-steps-from h m .0))))
+    (subst Circular (kept-opens h n (λ m. fresh (o .abandoned-opened n m))) z))
+no-circle-next first h t issued none (steps k j c) p z = p .2 (has-circle-test (kept-steps (h ++ steps k j c ∷ [])) .shows z)
+no-circle-next first h t issued none (ends j) p z =
+    none (calm-last (kept-steps h) (step-at (length h) ending j 0) (λ x m c. ending-calm (x .deed) (c .clashes))
+    (subst Circular (kept-ends h j (open-not-abandoned h (has-test (open-now h) j .holds p))) z))
+no-circle-next first h t issued none (abandons j) p z =
     let w = subst Circular (kept-abandons h j) z in
     none (w .0, carry (λ i x r. precedes-in r (before-from-only (λ a. not (eqb (a .job) j)) (kept-steps h) (r .in-order))) (λ x n. n) (w .1))
 
@@ -161,7 +169,7 @@ sound-next {first} {h} e s p =
       issued = issued-next first h (s .issued) e p;
       in-range = range-next first h (s .in-range) e p;
       few = few-next first h (s .turns) (s .issued) (s .few) e p;
-      no-circle = no-circle-next first h (s .no-circle) e p;
+      no-circle = no-circle-next first h (s .turns) (s .issued) (s .no-circle) e p;
     }
 
 pub sound-after : {first : ℕ} {h : History} (r : Request) → Sound first h → Sound first (after first h r)

@@ -1,7 +1,7 @@
 -- The laws of layouts: what stands in the layout of an order, when it keeps the conflicting pairs, and how it comes from the steps.
 --
 -- In order: the members of a layout; `keeps-forward` and `forward-keeps`: a layout keeps every conflicting pair exactly when every
--- precedence goes forward in the order; `Rearranged s t`: t comes from s by moving steps past steps of other jobs that they do not
+-- precedence goes forward in the order; `Rearranged s t`: t comes from s by moving steps to behind steps of other jobs that they do not
 -- conflict with; `layout-rearranged`: such a layout is a rearrangement of the steps.
 -- Assumes nothing.
 use mathlib.Core.Path.{_≡_, refl, sym, ap, ap₂, _∙_, subst, subst₂}
@@ -12,7 +12,7 @@ use lib.Dec.{eqb}
 use Rattle.graph.specs.Decide.{eq-test, is-true, is-false}
 use Rattle.graph.specs.Lists.{_∈_, here, later, only-yes, only-no, only-keeps, only-from, Before, first, after, before-nil, before-left, before-right, before-in-right, before-across, before-append, Once, once-one-way, once-irreflexive}
 use Rattle.history.specs.Events.{Step, Conflict, Precedes}
-use Rattle.history.specs.EventLaws.{conflict-back, precedes-of, precedes-past}
+use Rattle.history.specs.EventLaws.{precedes-of, precedes-past}
 use Rattle.history.specs.Orders.{of-job, layout, Keeps}
 
 -- ---- members and pairs
@@ -70,16 +70,12 @@ module _ {s : List Step} {order : List ℕ} where
 
 -- ---- rearranged
 
--- two steps of different jobs that do not conflict
+-- two steps of different jobs, of which the first does not conflict with the second after it
 pub record Apart (a b : Step) : Type 0 where
   pub others : a .job ≡ b .job → ⊥
   pub calm : Conflict a b → ⊥
 
--- which goes both ways
-pub apart-back : {a b : Step} → Apart a b → Apart b a
-apart-back p = record { others = λ e. p .others (sym e); calm = λ c. p .calm (conflict-back c) }
-
--- `Rearranged s t`: t has the steps of s, each moved only past steps that are apart from it
+-- `Rearranged s t`: t has the steps of s, each moved only to behind steps that it is apart from
 pub data Rearranged : List Step → List Step → Type 0 where
   done : Rearranged [] []
   take : {a : Step} {s t : List Step} (u v : List Step) → ((x : Step) → x ∈ u → Apart a x) → Rearranged s (u ++ v) → t ≡ u ++ a ∷ v → Rearranged (a ∷ s) t

@@ -20,4 +20,5 @@ pub mod Exact
 pub mod LayoutLaws
 pub mod RunLaws
 pub mod OrderLaws
+pub mod TimeLaws
 pub mod Promises

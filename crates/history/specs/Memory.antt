@@ -2,9 +2,10 @@
 --
 -- Three tables speak of each open job. own: the cells it has touched itself. past: the cells touched by ended jobs that it leads to, with
 -- nothing but ended jobs in between. leads: the open jobs that it leads to in that way. What lies behind another open job is left to that job,
--- which could still be abandoned. Tables of jobs that are not open are blank.
+-- which could still be abandoned. Tables of jobs that are not open are blank. Openings and ends stand in the tables as reads and writes do, on
+-- cell 0: so past has an end where the job leads to some ended job, and then it leads to every job that is opened.
 --
--- The rule is three functions (`Rule`), so that a wrong build is another rule over the same memory (WrongBuilds).
+-- The rule is four functions (`Rule`), so that a wrong build is another rule over the same memory (WrongBuilds).
 -- Assumes nothing.
 use mathlib.Core.Bool.{Bool, true, false, not, _&&_, _||_}
 use mathlib.Core.List.{List, [], _∷_, _++_}
@@ -14,12 +15,12 @@ use lib.ListN.{length}
 use Rattle.graph.specs.Decide.{some-of}
 use Rattle.graph.specs.Lists.{strike}
 use Rattle.graph.specs.Reach.{reach}
-use Rattle.history.specs.Events.{Kind, read, write, kinds, clash, alters, Event, opens, steps, ends, abandons, has}
+use Rattle.history.specs.Events.{Kind, read, write, kinds, alters, Deed, does, opening, ending, deeds, clash, Event, opens, steps, ends, abandons, has}
 use Rattle.history.specs.Replies.{cells, Request, Reply, Facts, reply-of, granted-of}
 
--- which cells were touched, by kind of step
+-- which cells were touched, by what was done
 abbrev pub Footprint : Type 0
-Footprint = Kind → ℕ → Bool
+Footprint = Deed → ℕ → Bool
 
 pub record Memory : Type 0 where
   pub next : ℕ
@@ -29,17 +30,17 @@ pub record Memory : Type 0 where
   pub leads : ℕ → ℕ → Bool
 
 abbrev pub fresh : ℕ → Memory
-fresh first = record { next = first; jobs = []; own = λ j k c. false; past = λ j k c. false; leads = λ i j. false }
+fresh first = record { next = first; jobs = []; own = λ j d c. false; past = λ j d c. false; leads = λ i j. false }
 
 -- ---- the rule
 
--- a footprint clashes with a step of kind k on cell c
-unfoldable pub meets : Footprint → Kind → ℕ → Bool
-meets f k c = some-of (λ k′. f k′ c && clash k′ k) kinds
+-- a footprint clashes with a later deed d on cell c
+unfoldable pub meets : Footprint → Deed → ℕ → Bool
+meets f d c = some-of (λ e. f e c && clash e d) deeds
 
 -- job i comes to lead to j at j's step: another job's own steps clash with it, or any job's past does, j's too
-unfoldable pub touches : Memory → Kind → ℕ → ℕ → ℕ → Bool
-touches m k j c i = (not (eqb i j) && meets (m .own i) k c) || meets (m .past i) k c
+unfoldable pub touches : Memory → Deed → ℕ → ℕ → ℕ → Bool
+touches m d j c i = (not (eqb i j) && meets (m .own i) d c) || meets (m .past i) d c
 
 unfoldable pub same-kind : Kind → Kind → Bool
 same-kind read read = true
@@ -47,16 +48,31 @@ same-kind read write = false
 same-kind write read = false
 same-kind write write = true
 
+unfoldable pub same-deed : Deed → Deed → Bool
+same-deed (does k) (does l) = same-kind k l
+same-deed (does k) opening = false
+same-deed (does k) ending = false
+same-deed opening (does l) = false
+same-deed opening opening = true
+same-deed opening ending = false
+same-deed ending (does l) = false
+same-deed ending opening = false
+same-deed ending ending = true
+
 -- a step of j: new leads to j, and j's own gains the cell
-unfoldable pub step-in : Memory → Kind → ℕ → ℕ → Memory
-step-in m k j c =
+unfoldable pub step-in : Memory → Deed → ℕ → ℕ → Memory
+step-in m d j c =
     record {
       next = m .next;
       jobs = m .jobs;
-      own = λ i k′ c′. m .own i k′ c′ || (eqb i j && (same-kind k′ k && eqb c′ c));
+      own = λ i e c′. m .own i e c′ || (eqb i j && (same-deed e d && eqb c′ c));
       past = m .past;
-      leads = λ i x. m .leads i x || (eqb x j && touches m k j c i);
+      leads = λ i x. m .leads i x || (eqb x j && touches m d j c i);
     }
+
+-- job j is open, and has done nothing
+unfoldable pub open-in : Memory → ℕ → Memory
+open-in m j = record { next = suc j; jobs = m .jobs ++ j ∷ []; own = m .own; past = m .past; leads = m .leads }
 
 -- job j is open no more: its tables are blanked, and it is struck out everywhere
 unfoldable pub blank : Memory → ℕ → Memory
@@ -64,8 +80,8 @@ blank m j =
     record {
       next = m .next;
       jobs = strike j (m .jobs);
-      own = λ i k c. not (eqb i j) && m .own i k c;
-      past = λ i k c. not (eqb i j) && m .past i k c;
+      own = λ i d c. not (eqb i j) && m .own i d c;
+      past = λ i d c. not (eqb i j) && m .past i d c;
       leads = λ i x. not (eqb i j) && (not (eqb x j) && m .leads i x);
     }
 
@@ -76,25 +92,29 @@ fold m j =
       next = m .next;
       jobs = m .jobs;
       own = m .own;
-      past = λ i k c. m .past i k c || (m .leads i j && (m .own j k c || m .past j k c));
+      past = λ i d c. m .past i d c || (m .leads i j && (m .own j d c || m .past j d c));
       leads = λ i x. m .leads i x || (m .leads i j && m .leads j x);
     }
 
 pub record Rule : Type 0 where
+  pub at-open : Memory → ℕ → Memory
   pub at-step : Memory → Kind → ℕ → ℕ → Memory
   pub at-end : Memory → ℕ → Memory
   pub at-abandon : Memory → ℕ → Memory
 
 unfoldable pub right : Rule
-right = record { at-step = step-in; at-end = λ m j. blank (fold m j) j; at-abandon = blank }
+right =
+    record {
+      at-open = λ m j. step-in (open-in m j) opening j 0;
+      at-step = λ m k j c. step-in m (does k) j c;
+      at-end = λ m j. blank (fold (step-in m ending j 0) j) j;
+      at-abandon = blank;
+    }
 
 -- ---- the machine of a rule
 
-unfoldable pub open-in : Memory → ℕ → Memory
-open-in m j = record { next = suc j; jobs = m .jobs ++ j ∷ []; own = m .own; past = m .past; leads = m .leads }
-
 unfoldable pub move : Rule → Memory → Event → Memory
-move u m (opens j) = open-in m j
+move u m (opens j) = u .at-open m j
 move u m (steps k j c) = u .at-step m k j c
 move u m (ends j) = u .at-end m j
 move u m (abandons j) = u .at-abandon m j
@@ -113,7 +133,7 @@ unfoldable pub held : Rule → Memory → Facts
 held u m =
     record {
       is-open = has (m .jobs);
-      has-written = λ j. some-of (λ k. alters k && some-of (λ c. m .own j k c) (below cells)) kinds;
+      has-written = λ j. some-of (λ k. alters k && some-of (λ c. m .own j (does k) c) (below cells)) kinds;
       count = length (m .jobs);
       next = m .next;
       closes = λ k j c. let l = u .at-step m k j c .leads in reach l (m .jobs) j j;

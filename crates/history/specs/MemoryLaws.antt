@@ -9,13 +9,13 @@ use Prim.Native.Nat.{ℕ}
 use lib.Dec.{T, eqb}
 use Rattle.graph.specs.Decide.{Decides, and-test, or-test, not-test, eq-test, own-test, read-as, some-test}
 use Rattle.graph.specs.Lists.{_∈_, here, later, only, only-keeps, only-from, Before, before-nil, before-cons, before-left, before-right, before-in-left, before-across, before-append, before-only, before-from-only, strike, strike-keeps, strike-from}
-use Rattle.graph.specs.Walk.{one, step, carry, relax, join, cut, uncut, into}
-use Rattle.history.specs.Events.{Kind, read, write, kinds, clash, Step, Conflict, Precedes}
+use Rattle.graph.specs.Walk.{Via, one, step, Any, carry, relax, join, cut, uncut, into, circle-passes}
+use Rattle.history.specs.Events.{Kind, read, write, kinds, Deed, does, opening, ending, deeds, clash, Step, Conflict, Precedes, Circular}
 use Rattle.history.specs.EventLaws.{precedes-in}
-use Rattle.history.specs.Memory.{Footprint, Memory, meets, touches, same-kind, step-in, blank, fold, open-in}
+use Rattle.history.specs.Memory.{Footprint, Memory, meets, touches, same-kind, same-deed, step-in, blank, fold, open-in}
 use Rattle.history.specs.Tables.{Touched, Led, Own, Past, Leads, TellsOf}
 
--- ---- kinds
+-- ---- kinds and deeds
 
 pub every-kind : (k : Kind) → k ∈ kinds
 every-kind read = here
@@ -28,18 +28,47 @@ kind-test read write = record { holds = λ t. absurd t; shows = λ e. subst (λ 
 kind-test write read = record { holds = λ t. absurd t; shows = λ e. subst (λ (k : Kind). T (same-kind write k)) e tt }
 kind-test write write = record { holds = λ t. refl; shows = λ e. tt }
 
--- a footprint meets a step when some kind of it clashes with the step's on its cell
-pub record Meets (F : Kind → ℕ → Type 0) (k : Kind) (c : ℕ) : Type 0 where
-  pub kind : Kind
-  pub marked : F kind c
-  pub clashes : T (clash kind k)
+pub every-deed : (d : Deed) → d ∈ deeds
+every-deed (does read) = here
+every-deed (does write) = later here
+every-deed opening = later (later here)
+every-deed ending = later (later (later here))
 
-pub meets-test : {f : Footprint} {F : Kind → ℕ → Type 0} → ((k : Kind) (c : ℕ) → Decides (f k c) (F k c)) → (k : Kind) (c : ℕ) → Decides (meets f k c) (Meets F k c)
+-- a deed is the same as itself
+deed-same : (d : Deed) → T (same-deed d d)
+unfolding same-deed same-kind
+deed-same (does read) = tt
+deed-same (does write) = tt
+deed-same opening = tt
+deed-same ending = tt
+
+same-deed-is : (d e : Deed) → T (same-deed d e) → d ≡ e
+unfolding same-deed
+same-deed-is (does k) (does l) t = ap does (kind-test k l .holds t)
+same-deed-is (does k) opening t = absurd t
+same-deed-is (does k) ending t = absurd t
+same-deed-is opening (does l) t = absurd t
+same-deed-is opening opening t = refl
+same-deed-is opening ending t = absurd t
+same-deed-is ending (does l) t = absurd t
+same-deed-is ending opening t = absurd t
+same-deed-is ending ending t = refl
+
+pub deed-test : (d e : Deed) → Decides (same-deed d e) (d ≡ e)
+deed-test d e = record { holds = same-deed-is d e; shows = λ q. subst (λ (x : Deed). T (same-deed d x)) q (deed-same d) }
+
+-- a footprint meets a step when something in it on the step's cell clashes with it
+pub record Meets (F : Deed → ℕ → Type 0) (d : Deed) (c : ℕ) : Type 0 where
+  pub deed : Deed
+  pub marked : F deed c
+  pub clashes : T (clash deed d)
+
+pub meets-test : {f : Footprint} {F : Deed → ℕ → Type 0} → ((d : Deed) (c : ℕ) → Decides (f d c) (F d c)) → (d : Deed) (c : ℕ) → Decides (meets f d c) (Meets F d c)
 unfolding meets
-meets-test {f} {F} d k c =
-    read-as (some-test (λ k′. and-test (d k′ c) (own-test (clash k′ k))) kinds)
-    (λ r. record { kind = r .0; marked = r .2 .0; clashes = r .2 .1 })
-    (λ r. (r .kind, every-kind (r .kind), (r .marked, r .clashes)))
+meets-test {f} {F} t d c =
+    read-as (some-test (λ e. and-test (t e c) (own-test (clash e d))) deeds)
+    (λ r. record { deed = r .0; marked = r .2 .0; clashes = r .2 .1 })
+    (λ r. (r .deed, every-deed (r .deed), (r .marked, r .clashes)))
 
 -- ---- one more step
 
@@ -69,16 +98,33 @@ module _ (s : List Step) (a : Step) where
           let e : r .later ≡ a = List·Memᴰ·eq-of-singleton (m .1) in
           inr (sym (r .later-job) ∙ ap (λ (x : Step). x .job) e, record { step = r .earlier; granted = m .0; its-job = r .earlier-job; conflicting = subst (λ (x : Step). Conflict (r .earlier) x) e (r .conflicting) })
 
-  pub touched-old : {j : ℕ} {k : Kind} {c : ℕ} → Touched s j k c → Touched (s ++ a ∷ []) j k c
-  touched-old r = record { step = r .step; granted = Memᴰ·append-left (a ∷ []) (r .granted); its-job = r .its-job; its-kind = r .its-kind; its-cell = r .its-cell }
+  -- a step that none before it conflicts with closes no circle
+  pub calm-last : ((x : Step) → x ∈ s → Conflict x a → ⊥) → Circular (s ++ a ∷ []) → Circular s
+  calm-last calm z = (z .0, carry (λ p q r. ⊎-elim (λ o. o) (λ n. absurd (calm (n .1 .step) (n .1 .granted) (n .1 .conflicting))) (precedes-last p q r)) (λ x h. h) (z .1))
 
-  pub touched-last : {j : ℕ} {k : Kind} {c : ℕ} → Touched (s ++ a ∷ []) j k c → Touched s j k c ⊎ ((j ≡ a .job) × ((k ≡ a .kind) × (c ≡ a .cell)))
-  touched-last {j} {k} {c} r = ⊎-elim (λ m. inl (record { step = r .step; granted = m; its-job = r .its-job; its-kind = r .its-kind; its-cell = r .its-cell })) fresh (List·Memᴰ·append-cases s (r .granted))
+  -- nor does the first step of a job, as its job precedes none
+  pub first-last : ((x : Step) → x ∈ s → x .job ≡ a .job → ⊥) → Circular (s ++ a ∷ []) → Circular s
+  first-last idle z = ⊎-elim (λ c. c) (λ w. absurd (leaves w)) (circle-passes precedes-last z)
     where
-      fresh : r .step ∈ a ∷ [] → Touched s j k c ⊎ ((j ≡ a .job) × ((k ≡ a .kind) × (c ≡ a .cell)))
+      out : {q : ℕ} → Precedes (s ++ a ∷ []) (a .job) q → ⊥
+      out {q} r =
+          ⊎-elim (λ o. idle (o .earlier) (before-left (o .in-order)) (o .earlier-job)) (λ n. idle (n .1 .step) (n .1 .granted) (n .1 .its-job))
+          (precedes-last (a .job) q r)
+
+      leaves : {q : ℕ} → Via (Precedes (s ++ a ∷ [])) Any (a .job) q → ⊥
+      leaves (one r) = out r
+      leaves (step r h w) = out r
+
+  pub touched-old : {j : ℕ} {d : Deed} {c : ℕ} → Touched s j d c → Touched (s ++ a ∷ []) j d c
+  touched-old r = record { step = r .step; granted = Memᴰ·append-left (a ∷ []) (r .granted); its-job = r .its-job; its-deed = r .its-deed; its-cell = r .its-cell }
+
+  pub touched-last : {j : ℕ} {d : Deed} {c : ℕ} → Touched (s ++ a ∷ []) j d c → Touched s j d c ⊎ ((j ≡ a .job) × ((d ≡ a .deed) × (c ≡ a .cell)))
+  touched-last {j} {d} {c} r = ⊎-elim (λ m. inl (record { step = r .step; granted = m; its-job = r .its-job; its-deed = r .its-deed; its-cell = r .its-cell })) fresh (List·Memᴰ·append-cases s (r .granted))
+    where
+      fresh : r .step ∈ a ∷ [] → Touched s j d c ⊎ ((j ≡ a .job) × ((d ≡ a .deed) × (c ≡ a .cell)))
       fresh m =
           let e : r .step ≡ a = List·Memᴰ·eq-of-singleton m in
-          inr (sym (r .its-job) ∙ ap (λ (x : Step). x .job) e, (sym (r .its-kind) ∙ ap (λ (x : Step). x .kind) e, sym (r .its-cell) ∙ ap (λ (x : Step). x .cell) e))
+          inr (sym (r .its-job) ∙ ap (λ (x : Step). x .job) e, (sym (r .its-deed) ∙ ap (λ (x : Step). x .deed) e, sym (r .its-cell) ∙ ap (λ (x : Step). x .cell) e))
 
 module _ {s : List Step} {gone now : List ℕ} {m : Memory} (tells : TellsOf s gone now m) (apart : (i : ℕ) → i ∈ now → i ∈ gone → ⊥) where
   module _ (a : Step) (open-job : a .job ∈ now) where
@@ -86,17 +132,17 @@ module _ {s : List Step} {gone now : List ℕ} {m : Memory} (tells : TellsOf s g
     abbrev Reaches : ℕ → Type 0
     Reaches i = Met s a i ⊎ ((x : ℕ) × Led s gone i x × (x ∈ gone) × Met s a x)
 
-    own-met : {i : ℕ} → (i ≡ a .job → ⊥) → Meets (Own s now i) (a .kind) (a .cell) → Met s a i
+    own-met : {i : ℕ} → (i ≡ a .job → ⊥) → Meets (Own s now i) (a .deed) (a .cell) → Met s a i
     own-met {i} other r =
         let t = r .marked .touched in
         record {
           step = t .step;
           granted = t .granted;
           its-job = t .its-job;
-          conflicting = record { others = λ e. other (sym (t .its-job) ∙ e); same-cell = t .its-cell; clashes = subst (λ (k : Kind). T (clash k (a .kind))) (sym (t .its-kind)) (r .clashes) };
+          conflicting = record { others = λ e. other (sym (t .its-job) ∙ e); same-cell = t .its-cell; clashes = subst (λ (d : Deed). T (clash d (a .deed))) (sym (t .its-deed)) (r .clashes) };
         }
 
-    past-met : {i : ℕ} → Meets (Past s gone now i) (a .kind) (a .cell) → Reaches i
+    past-met : {i : ℕ} → Meets (Past s gone now i) (a .deed) (a .cell) → Reaches i
     past-met {i} r =
         let p = r .marked in
         let t = p .touched in
@@ -111,31 +157,31 @@ module _ {s : List Step} {gone now : List ℕ} {m : Memory} (tells : TellsOf s g
             conflicting = record {
               others = λ e. apart (a .job) open-job (Memᴰ·cast (sym e ∙ t .its-job) (p .is-ended));
               same-cell = t .its-cell;
-              clashes = subst (λ (k : Kind). T (clash k (a .kind))) (sym (t .its-kind)) (r .clashes);
+              clashes = subst (λ (d : Deed). T (clash d (a .deed))) (sym (t .its-deed)) (r .clashes);
             };
           },
         )
 
-    met-own : {i : ℕ} → i ∈ now → Met s a i → Meets (Own s now i) (a .kind) (a .cell)
+    met-own : {i : ℕ} → i ∈ now → Met s a i → Meets (Own s now i) (a .deed) (a .cell)
     met-own o n =
         record {
-          kind = n .step .kind;
+          deed = n .step .deed;
           clashes = n .conflicting .clashes;
-          marked = record { is-open = o; touched = record { step = n .step; granted = n .granted; its-job = n .its-job; its-kind = refl; its-cell = n .conflicting .same-cell } };
+          marked = record { is-open = o; touched = record { step = n .step; granted = n .granted; its-job = n .its-job; its-deed = refl; its-cell = n .conflicting .same-cell } };
         }
 
-    met-past : {i : ℕ} → i ∈ now → (x : ℕ) × Led s gone i x × (x ∈ gone) × Met s a x → Meets (Past s gone now i) (a .kind) (a .cell)
+    met-past : {i : ℕ} → i ∈ now → (x : ℕ) × Led s gone i x × (x ∈ gone) × Met s a x → Meets (Past s gone now i) (a .deed) (a .cell)
     met-past o r =
         let n = r .3 in
         record {
-          kind = n .step .kind;
+          deed = n .step .deed;
           clashes = n .conflicting .clashes;
-          marked = record { is-open = o; job = r .0; is-ended = r .2; walk = r .1; touched = record { step = n .step; granted = n .granted; its-job = n .its-job; its-kind = refl; its-cell = n .conflicting .same-cell } };
+          marked = record { is-open = o; job = r .0; is-ended = r .2; walk = r .1; touched = record { step = n .step; granted = n .granted; its-job = n .its-job; its-deed = refl; its-cell = n .conflicting .same-cell } };
         }
 
-    touches-test : (i : ℕ) → Decides (touches m (a .kind) (a .job) (a .cell) i) (((i ≡ a .job → ⊥) × Meets (Own s now i) (a .kind) (a .cell)) ⊎ Meets (Past s gone now i) (a .kind) (a .cell))
+    touches-test : (i : ℕ) → Decides (touches m (a .deed) (a .job) (a .cell) i) (((i ≡ a .job → ⊥) × Meets (Own s now i) (a .deed) (a .cell)) ⊎ Meets (Past s gone now i) (a .deed) (a .cell))
     unfolding touches
-    touches-test i = or-test (and-test (not-test (eq-test i (a .job))) (meets-test (tells .own i) (a .kind) (a .cell))) (meets-test (tells .past i) (a .kind) (a .cell))
+    touches-test i = or-test (and-test (not-test (eq-test i (a .job))) (meets-test (tells .own i) (a .deed) (a .cell))) (meets-test (tells .past i) (a .deed) (a .cell))
 
     -- the walks with ended inner jobs after the step: an old one, or one into the step's job
     led-last : {i x : ℕ} → Led (s ++ a ∷ []) gone i x → Led s gone i x ⊎ ((x ≡ a .job) × Reaches i)
@@ -148,20 +194,20 @@ module _ {s : List Step} {gone now : List ℕ} {m : Memory} (tells : TellsOf s g
     led-new (inl n) = one (precedes-new s a n)
     led-new (inr r) = join (led-old (r .1)) (r .2) (one (precedes-new s a (r .3)))
 
-    pub tells-step : TellsOf (s ++ a ∷ []) gone now (step-in m (a .kind) (a .job) (a .cell))
+    pub tells-step : TellsOf (s ++ a ∷ []) gone now (step-in m (a .deed) (a .job) (a .cell))
     unfolding step-in
     tells-step = record { jobs = tells .jobs; own = own-tells; past = past-tells; leads = leads-tells }
       where
-        own-tells : (i : ℕ) (k : Kind) (c : ℕ) → Decides (m .own i k c || (eqb i (a .job) && (same-kind k (a .kind) && eqb c (a .cell)))) (Own (s ++ a ∷ []) now i k c)
-        own-tells i k c =
-            read-as (or-test (tells .own i k c) (and-test (eq-test i (a .job)) (and-test (kind-test k (a .kind)) (eq-test c (a .cell)))))
+        own-tells : (i : ℕ) (d : Deed) (c : ℕ) → Decides (m .own i d c || (eqb i (a .job) && (same-deed d (a .deed) && eqb c (a .cell)))) (Own (s ++ a ∷ []) now i d c)
+        own-tells i d c =
+            read-as (or-test (tells .own i d c) (and-test (eq-test i (a .job)) (and-test (deed-test d (a .deed)) (eq-test c (a .cell)))))
             (⊎-elim (λ r. record { is-open = r .is-open; touched = touched-old s a (r .touched) })
-            (λ r. record { is-open = Memᴰ·cast (r .0) open-job; touched = record { step = a; granted = Memᴰ·append-right s here; its-job = sym (r .0); its-kind = sym (r .1 .0); its-cell = sym (r .1 .1) } }))
+            (λ r. record { is-open = Memᴰ·cast (r .0) open-job; touched = record { step = a; granted = Memᴰ·append-right s here; its-job = sym (r .0); its-deed = sym (r .1 .0); its-cell = sym (r .1 .1) } }))
             (λ r. ⊎-elim (λ t. inl (record { is-open = r .is-open; touched = t })) inr (touched-last s a (r .touched)))
 
-        past-tells : (i : ℕ) (k : Kind) (c : ℕ) → Decides (m .past i k c) (Past (s ++ a ∷ []) gone now i k c)
-        past-tells i k c =
-            read-as (tells .past i k c)
+        past-tells : (i : ℕ) (d : Deed) (c : ℕ) → Decides (m .past i d c) (Past (s ++ a ∷ []) gone now i d c)
+        past-tells i d c =
+            read-as (tells .past i d c)
             (λ r. record { is-open = r .is-open; job = r .job; is-ended = r .is-ended; walk = led-old (r .walk); touched = touched-old s a (r .touched) })
             (λ r.
             let no : (r .job ≡ a .job) → ⊥ = λ e. apart (a .job) open-job (Memᴰ·cast (sym e) (r .is-ended)) in
@@ -173,7 +219,7 @@ module _ {s : List Step} {gone now : List ℕ} {m : Memory} (tells : TellsOf s g
               touched = ⊎-elim (λ t. t) (λ t. absurd (no (t .0))) (touched-last s a (r .touched));
             })
 
-        leads-tells : (i x : ℕ) → Decides (m .leads i x || (eqb x (a .job) && touches m (a .kind) (a .job) (a .cell) i)) (Leads (s ++ a ∷ []) gone now i x)
+        leads-tells : (i x : ℕ) → Decides (m .leads i x || (eqb x (a .job) && touches m (a .deed) (a .job) (a .cell) i)) (Leads (s ++ a ∷ []) gone now i x)
         leads-tells i x =
             read-as (or-test (tells .leads i x) (and-test (eq-test x (a .job)) (touches-test i)))
             (⊎-elim (λ r. record { from-open = r .from-open; to-open = r .to-open; walk = led-old (r .walk) })
@@ -197,16 +243,16 @@ module _ {s : List Step} {gone now : List ℕ} {m : Memory} (tells : TellsOf s g
     unfolding blank fold
     tells-end = record { jobs = ap (strike j) (tells .jobs); own = own-tells; past = past-tells; leads = leads-tells }
       where
-        own-tells : (i : ℕ) (k : Kind) (c : ℕ) → Decides (not (eqb i j) && m .own i k c) (Own s (strike j now) i k c)
-        own-tells i k c =
-            read-as (and-test (not-test (eq-test i j)) (tells .own i k c))
+        own-tells : (i : ℕ) (d : Deed) (c : ℕ) → Decides (not (eqb i j) && m .own i d c) (Own s (strike j now) i d c)
+        own-tells i d c =
+            read-as (and-test (not-test (eq-test i j)) (tells .own i d c))
             (λ r. record { is-open = strike-keeps (r .1 .is-open) (r .0); touched = r .1 .touched })
             (λ r. let f = strike-from j now (r .is-open) in (f .1, record { is-open = f .0; touched = r .touched }))
 
-        past-tells : (i : ℕ) (k : Kind) (c : ℕ)
-            → Decides (not (eqb i j) && (m .past i k c || (m .leads i j && (m .own j k c || m .past j k c)))) (Past s (gone ++ j ∷ []) (strike j now) i k c)
-        past-tells i k c =
-            read-as (and-test (not-test (eq-test i j)) (or-test (tells .past i k c) (and-test (tells .leads i j) (or-test (tells .own j k c) (tells .past j k c)))))
+        past-tells : (i : ℕ) (d : Deed) (c : ℕ)
+            → Decides (not (eqb i j) && (m .past i d c || (m .leads i j && (m .own j d c || m .past j d c)))) (Past s (gone ++ j ∷ []) (strike j now) i d c)
+        past-tells i d c =
+            read-as (and-test (not-test (eq-test i j)) (or-test (tells .past i d c) (and-test (tells .leads i j) (or-test (tells .own j d c) (tells .past j d c)))))
             (λ r. ⊎-elim
             (λ p. record { is-open = strike-keeps (p .is-open) (r .0); job = p .job; is-ended = Memᴰ·append-left (j ∷ []) (p .is-ended); walk = led-ending (inl (p .walk)); touched = p .touched })
             (λ q. ⊎-elim
@@ -227,7 +273,7 @@ module _ {s : List Step} {gone now : List ℕ} {m : Memory} (tells : TellsOf s g
                   let e : r .job ≡ j = List·Memᴰ·eq-of-singleton g in
                   inr (
                     to-j (subst (λ (y : ℕ). Led s gone i y) e (⊎-elim (λ w. w) (λ w. subst (λ (y : ℕ). Led s gone i y) (sym e) (w .0)) (led-ended (r .walk)))),
-                    inl (record { is-open = open-job; touched = subst (λ (y : ℕ). Touched s y k c) e (r .touched) }),
+                    inl (record { is-open = open-job; touched = subst (λ (y : ℕ). Touched s y d c) e (r .touched) }),
                   ))
                   (List·Memᴰ·append-cases gone (r .is-ended)),
             ))
@@ -276,25 +322,25 @@ module _ {s : List Step} {gone now : List ℕ} {m : Memory} (tells : TellsOf s g
     led-had : {i x : ℕ} → Led without gone i x → Led s gone i x
     led-had w = carry precedes-had (λ p h. h) w
 
-    touched-kept : {i : ℕ} {k : Kind} {c : ℕ} → (i ≡ j → ⊥) → Touched s i k c → Touched without i k c
-    touched-kept h t = record { step = t .step; granted = only-keeps (λ a. not (eqb (a .job) j)) (t .granted) (stays (t .step) (t .its-job) h); its-job = t .its-job; its-kind = t .its-kind; its-cell = t .its-cell }
+    touched-kept : {i : ℕ} {d : Deed} {c : ℕ} → (i ≡ j → ⊥) → Touched s i d c → Touched without i d c
+    touched-kept h t = record { step = t .step; granted = only-keeps (λ a. not (eqb (a .job) j)) (t .granted) (stays (t .step) (t .its-job) h); its-job = t .its-job; its-deed = t .its-deed; its-cell = t .its-cell }
 
-    touched-had : {i : ℕ} {k : Kind} {c : ℕ} → Touched without i k c → Touched s i k c
-    touched-had t = record { step = t .step; granted = only-from (λ a. not (eqb (a .job) j)) s (t .granted) .0; its-job = t .its-job; its-kind = t .its-kind; its-cell = t .its-cell }
+    touched-had : {i : ℕ} {d : Deed} {c : ℕ} → Touched without i d c → Touched s i d c
+    touched-had t = record { step = t .step; granted = only-from (λ a. not (eqb (a .job) j)) s (t .granted) .0; its-job = t .its-job; its-deed = t .its-deed; its-cell = t .its-cell }
 
     pub tells-abandon : TellsOf without gone (strike j now) (blank m j)
     unfolding blank
     tells-abandon = record { jobs = ap (strike j) (tells .jobs); own = own-tells; past = past-tells; leads = leads-tells }
       where
-        own-tells : (i : ℕ) (k : Kind) (c : ℕ) → Decides (not (eqb i j) && m .own i k c) (Own without (strike j now) i k c)
-        own-tells i k c =
-            read-as (and-test (not-test (eq-test i j)) (tells .own i k c))
+        own-tells : (i : ℕ) (d : Deed) (c : ℕ) → Decides (not (eqb i j) && m .own i d c) (Own without (strike j now) i d c)
+        own-tells i d c =
+            read-as (and-test (not-test (eq-test i j)) (tells .own i d c))
             (λ r. record { is-open = strike-keeps (r .1 .is-open) (r .0); touched = touched-kept (r .0) (r .1 .touched) })
             (λ r. let f = strike-from j now (r .is-open) in (f .1, record { is-open = f .0; touched = touched-had (r .touched) }))
 
-        past-tells : (i : ℕ) (k : Kind) (c : ℕ) → Decides (not (eqb i j) && m .past i k c) (Past without gone (strike j now) i k c)
-        past-tells i k c =
-            read-as (and-test (not-test (eq-test i j)) (tells .past i k c))
+        past-tells : (i : ℕ) (d : Deed) (c : ℕ) → Decides (not (eqb i j) && m .past i d c) (Past without gone (strike j now) i d c)
+        past-tells i d c =
+            read-as (and-test (not-test (eq-test i j)) (tells .past i d c))
             (λ r.
             let p = r .1 in
             let hx : (p .job ≡ j) → ⊥ = λ q. apart j open-job (Memᴰ·cast (sym q) (p .is-ended)) in
@@ -333,10 +379,10 @@ module _ {s : List Step} {gone now : List ℕ} {m : Memory} (tells : TellsOf s g
     tells-open =
         record {
           jobs = ap (λ (l : List ℕ). l ++ j ∷ []) (tells .jobs);
-          own = λ i k c. read-as (tells .own i k c)
+          own = λ i d c. read-as (tells .own i d c)
               (λ r. record { is-open = still-open (r .is-open); touched = r .touched })
               (λ r. record { is-open = was-open (λ e. idle (r .touched .step) (r .touched .granted) (r .touched .its-job ∙ e)) (r .is-open); touched = r .touched });
-          past = λ i k c. read-as (tells .past i k c)
+          past = λ i d c. read-as (tells .past i d c)
               (λ r. record { is-open = still-open (r .is-open); job = r .job; is-ended = r .is-ended; walk = r .walk; touched = r .touched })
               (λ r. record { is-open = was-open (idle-start (r .walk)) (r .is-open); job = r .job; is-ended = r .is-ended; walk = r .walk; touched = r .touched });
           leads = λ i x. read-as (tells .leads i x)

@@ -3,15 +3,15 @@
 -- Assumes nothing.
 use mathlib.Core.Path.{_≡_, refl, sym, _∙_, subst, subst₃}
 use mathlib.Core.Logic.{_⊎_, inl, inr, ⊎-elim}
-use mathlib.Core.List.{List, [], _∷_, _++_, append-nil, append-assoc, List·Memᴰ·not-nil, Memᴰ·cast}
+use mathlib.Core.List.{List, [], _∷_, _++_, append-nil, append-assoc, List·Memᴰ·not-nil, List·Memᴰ·append-cases, List·Memᴰ·eq-of-singleton, Memᴰ·append-right, Memᴰ·cast}
 use Prim.Native.Nat.{ℕ, _<_}
 use native.Mathlib.Omega.{arith}
 use lib.ListN.{length}
 use Rattle.graph.specs.Decide.{Decides, read-as, answer}
-use Rattle.graph.specs.Lists.{_∈_, before-right}
+use Rattle.graph.specs.Lists.{_∈_, here, before-right}
 use Rattle.graph.specs.Walk.{Via, one, step, Any, carry, relax, split, merge, circle-passes}
 use Rattle.graph.specs.Reach.{reach-test}
-use Rattle.history.specs.Events.{Kind, Event, opens, steps, ends, abandons, History, opened, ended, kept, open-now, Step, all-steps, kept-steps, Precedes, Circular}
+use Rattle.history.specs.Events.{Kind, does, opening, ending, Event, opens, steps, ends, abandons, History, opened, ended, abandoned, kept, open-now, Step, step-at, all-steps, kept-steps, Precedes, Circular}
 use Rattle.history.specs.Replies.{cells}
 use Rattle.history.specs.Turns.{InTurn, InTurnAfter, Turns}
 use Rattle.history.specs.Memory.{Memory, fresh, right, step-in, move, move-all, held}
@@ -32,12 +32,18 @@ module _ {h : History} {m : Memory} (o : Orderly h) (t : Tells h m) where
   unfolding move right
   tells-next (opens j) turn =
       let new : (j ∈ opened h) → ⊥ = λ n. let q = turn j n in omega arith in
-      retell (kept-opens h j) (stays (ended-grows h (opens j))) (open-opens h j (λ n. new (o .abandoned-opened j n)) (λ n. new (o .ended-opened j n)))
-      (tells-open t apart j (λ a n e. new (Memᴰ·cast (sym e) (o .stepped a (kept-steps-from h n .0)))))
+      let not-ended : (j ∈ ended h) → ⊥ = λ n. new (o .ended-opened j n) in
+      let not-abandoned : (j ∈ abandoned h) → ⊥ = λ n. new (o .abandoned-opened j n) in
+      retell (kept-opens h j not-abandoned) (stays (ended-grows h (opens j))) (open-opens h j not-abandoned not-ended)
+      (tells-step (tells-open t apart j (λ a n e. new (Memᴰ·cast (sym e) (o .stepped a (kept-steps-from h n .0)))))
+      (λ i n g. ⊎-elim (λ m. apart i m g) (λ m. not-ended (Memᴰ·cast (sym (List·Memᴰ·eq-of-singleton m)) g)) (List·Memᴰ·append-cases (open-now h) n))
+      (step-at (length h) opening j 0) (Memᴰ·append-right (open-now h) here))
   tells-next (steps k j c) turn =
       retell (kept-step h j k c (open-not-abandoned h (turn .0))) (stays (ended-grows h (steps k j c))) (open-steps h j k c)
-      (tells-step t apart (record { at = length h; kind = k; job = j; cell = c }) (turn .0))
-  tells-next (ends j) turn = retell (kept-ends h j) (ended-grows h (ends j) .joined) (open-ends h j) (tells-end t apart j turn)
+      (tells-step t apart (step-at (length h) (does k) j c) (turn .0))
+  tells-next (ends j) turn =
+      retell (kept-ends h j (open-not-abandoned h turn)) (ended-grows h (ends j) .joined) (open-ends h j)
+      (tells-end (tells-step t apart (step-at (length h) ending j 0) turn) apart j turn)
   tells-next (abandons j) turn = retell (kept-abandons h j) (stays (ended-grows h (abandons j))) (open-abandons h j) (tells-abandon t apart j (turn .0))
 
 pub fresh-tells : (first : ℕ) → Tells [] (fresh first)
@@ -45,8 +51,8 @@ unfolding kept-steps all-steps ended open-now kept opened
 fresh-tells first =
     record {
       jobs = refl;
-      own = λ j k c. record { holds = λ x. absurd x; shows = λ r. List·Memᴰ·not-nil (r .is-open) };
-      past = λ i k c. record { holds = λ x. absurd x; shows = λ r. List·Memᴰ·not-nil (r .is-open) };
+      own = λ j d c. record { holds = λ x. absurd x; shows = λ r. List·Memᴰ·not-nil (r .is-open) };
+      past = λ i d c. record { holds = λ x. absurd x; shows = λ r. List·Memᴰ·not-nil (r .is-open) };
       leads = λ i j. record { holds = λ x. absurd x; shows = λ r. List·Memᴰ·not-nil (r .from-open) };
     }
 
@@ -92,9 +98,9 @@ module _ {h : History} {m : Memory} (o : Orderly h) (t : Tells h m) (none : Circ
   unfolding held right move
   closes-test k j c open-job real =
       let e = steps k j c in
-      let a : Step = record { at = length h; kind = k; job = j; cell = c } in
+      let a : Step = step-at (length h) (does k) j c in
       let o′ : Orderly (h ++ e ∷ []) = orderly-next e o (open-job, real) in
-      let t′ : Tells (h ++ e ∷ []) (step-in m k j c) = tells-next o t e (open-job, real) in
+      let t′ : Tells (h ++ e ∷ []) (step-in m (does k) j c) = tells-next o t e (open-job, real) in
       let same : open-now (h ++ e ∷ []) ≡ open-now h = open-steps h j k c in
       let open′ : j ∈ open-now (h ++ e ∷ []) = subst (λ (l : List ℕ). j ∈ l) (sym same) open-job in
       let held-jobs : m .jobs ≡ open-now (h ++ e ∷ []) = t .jobs ∙ sym same in

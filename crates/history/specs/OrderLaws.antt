@@ -13,7 +13,7 @@ use Rattle.graph.specs.Decide.{not-test, is-false}
 use Rattle.graph.specs.Lists.{_∈_, before-left, before-right, before-from-only, Once, once-if}
 use Rattle.graph.specs.Listing.{Forward, LowestFirst}
 use Rattle.graph.specs.ListingLaws.{lowest-forward, lowest-least, forward-no-circle, lowest-first-some, lowest-first-none, lowest-first-exists, lowest-first-is}
-use Rattle.history.specs.Events.{History, Step, has, abandoned, kept, all-steps, kept-steps, Precedes, Circular}
+use Rattle.history.specs.Events.{Kind, does, History, Step, has, abandoned, kept, all-steps, kept-steps, Precedes, Circular}
 use Rattle.history.specs.Turns.{Turns}
 use Rattle.history.specs.Orders.{layout, Accepted, order-of}
 use Rattle.history.specs.Run.{World, Program, run, start, last-write}
@@ -57,8 +57,8 @@ module _ (h : History) (turns : Turns h) where
     pub same-last-write : (c : ℕ) → last-write c (kept-steps h) ≡ last-write c (layout (kept-steps h) o)
     same-last-write c = last-write-rearranged laid-out c
 
-    pub same-read : (r : Step) (p q p′ q′ : List Step) → kept-steps h ≡ p ++ r ∷ q → layout (kept-steps h) o ≡ p′ ++ r ∷ q′ → last-write (r .cell) p ≡ last-write (r .cell) p′
-    same-read r p q p′ q′ e e′ = read-follows steps-once laid-out r p q p′ q′ e e′
+    pub same-read : (r : Step) {k : Kind} → r .deed ≡ does k → (p q p′ q′ : List Step) → kept-steps h ≡ p ++ r ∷ q → layout (kept-steps h) o ≡ p′ ++ r ∷ q′ → last-write (r .cell) p ≡ last-write (r .cell) p′
+    same-read r is p q p′ q′ e e′ = read-follows steps-once laid-out r is p q p′ q′ e e′
 
     module _ {ℓ} {X : Type ℓ} (f : Program X) (g : ℕ → X) where
       -- abandoned jobs only read, so the kept steps alone leave what the log leaves

@@ -1,7 +1,8 @@
 -- An order of jobs, its layout, and what it means that an order is accepted.
 --
--- The layout of an order: each job's steps as the log had them, job after job. An order is accepted when it names each kept job once
--- and nothing else, and its layout keeps every conflicting pair as the log had it.
+-- The layout of an order: each job's steps as the log had them, from its opening to its end, job after job. An order is accepted when it names each
+-- kept job once and nothing else, and its layout keeps every conflicting pair as the log had it: so also an end and an opening after it, which is that
+-- a job that had ended when another was opened stands before it (`real-time` of Promises).
 -- Assumes nothing.
 use mathlib.Core.List.{List, [], _∷_, _++_}
 use mathlib.Core.Option.{Option}

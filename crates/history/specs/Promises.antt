@@ -2,7 +2,8 @@
 --
 -- To be believed for them: Events (events, conflict, precedence, circle), Replies (the full history's replies), Memory (the bounded memory),
 -- Tables (what its tables mean), Turns, Orders (layout, accepted), Run (what jobs read and leave), and of graph Walk, Lists and Listing.
--- In order: circles; replies; the bounded memory; orders; what the auditor asked; the lowest-first order; granted histories; the table of cases.
+-- In order: precedence and circles; replies; the bounded memory; orders; real time; what the auditor asked; the lowest-first order; granted histories; the
+-- table of cases.
 -- Assumes nothing.
 use mathlib.Core.Path.{_≡_, sym, ap, _∙_, subst}
 use mathlib.Core.Logic.{_↔_, ⊎-elim}
@@ -14,10 +15,10 @@ use lib.Dec.{T, eqb}
 use lib.ListN.{length}
 use native.Mathlib.Omega.{arith}
 use Rattle.graph.specs.Decide.{Decides, answer, test-true, test-false, eq-test, le-test}
-use Rattle.graph.specs.Lists.{_∈_}
+use Rattle.graph.specs.Lists.{_∈_, Before}
 use Rattle.graph.specs.Listing.{Forward, LowestFirst}
 use Rattle.graph.specs.ListingLaws.{lowest-only, forced-only}
-use Rattle.history.specs.Events.{Kind, steps, History, has, open-now, kept, Step, all-steps, kept-steps, Precedes, Circular, has-circle}
+use Rattle.history.specs.Events.{Kind, does, opens, steps, ends, History, has, open-now, kept, Step, all-steps, kept-steps, Precedes, Circular, has-circle}
 use Rattle.history.specs.Replies.{cells, most-open, Request, Reply, an-open, a-step, an-end, want, tests, code-of, event-of, job-of, reply-of, granted-of, full, reply, after, replies, history-of}
 use Rattle.history.specs.ReplyLaws.{reply-for, OpenReply, open-reply, Alike, alike-reply, alike-granted}
 use Rattle.history.specs.Turns.{Turns}
@@ -35,8 +36,14 @@ use Rattle.history.specs.Granted.{granted-sound}
 use Rattle.history.specs.Exact.{exact}
 use Rattle.history.specs.LayoutLaws.{Onward, keeps-forward, forward-keeps}
 use Rattle.history.specs.OrderLaws.{accepted-forward, forward-accepted, same-last-write, same-read, same-cells, same-sights, accepted-no-circle, order-lowest, lowest-order, order-accepted, no-order-circle, order-exists, order-least}
+use Rattle.history.specs.TimeLaws.{GoesKept, precedes-goes, goes-precedes, time-kept}
 
--- ---- circles
+-- ---- precedence and circles
+
+-- a job precedes another exactly when neither is abandoned and, in the history as it was granted, a read or write of the one stands before a conflicting one of
+-- the other (`by-steps` of Goes), or the one's end stands before the other's opening (`by-time`)
+pub precedes-exactly : (h : History) (i j : ℕ) → Precedes (kept-steps h) i j ↔ GoesKept h i j
+precedes-exactly h i j = (precedes-goes h, goes-precedes h)
 
 -- the test holds exactly when there is a circle: a test that holds yields the circle, a circle makes it hold
 pub circle-decided : (s : List Step) → Decides (has-circle s) (Circular s)
@@ -123,14 +130,20 @@ keeps-exactly s o = (keeps-forward, forward-keeps)
 pub accepted-exactly : (h : History) → Turns h → (o : List ℕ) → Accepted h o ↔ Forward (Precedes (kept-steps h)) (kept h) o
 accepted-exactly h t o = (accepted-forward h t, forward-accepted h t)
 
--- then wherever a kept step r stands, in the log after p and in the layout after q, the last write of its cell is the same one, or none in both
-pub same-reads : (h : History) → Turns h → (o : List ℕ) → Accepted h o → (r : Step) (p p′ q q′ : List Step)
+-- then wherever a kept read or write r stands, in the log after p and in the layout after q, the last write of its cell is the same one, or none in both
+pub same-reads : (h : History) → Turns h → (o : List ℕ) → Accepted h o → (r : Step) (k : Kind) → r .deed ≡ does k → (p p′ q q′ : List Step)
     → kept-steps h ≡ p ++ r ∷ p′ → layout (kept-steps h) o ≡ q ++ r ∷ q′ → last-write (r .cell) p ≡ last-write (r .cell) q
-same-reads h t o a r p p′ q q′ = same-read h t a r p p′ q q′
+same-reads h t o a r k is p p′ q q′ = same-read h t a r is p p′ q q′
 
 -- and each cell ends with the same write
 pub same-ends : (h : History) → Turns h → (o : List ℕ) → Accepted h o → (c : ℕ) → last-write c (kept-steps h) ≡ last-write c (layout (kept-steps h) o)
 same-ends h t o a c = same-last-write h t a c
+
+-- ---- real time
+
+-- in an accepted order a job stands before every kept job that was opened after its end
+pub real-time : (h : History) → Turns h → (o : List ℕ) → Accepted h o → (i j : ℕ) → j ∈ kept h → Before (ends i) (opens j) h → Before i j o
+real-time h t o a i j = time-kept h t a
 
 -- ---- what the auditor asked
 
@@ -171,7 +184,7 @@ order-first h t p q r i j = order-least h t p q r
 
 -- ---- granted histories
 
--- every history of granted requests is in turn, has no circle, and so has an order
+-- every history of granted requests is in turn, has no circle, and so has an order, which keeps real time as every accepted order does
 pub granted-order : (first : ℕ) (rs : List Request) → (o : List ℕ) × (order-of (history-of first rs) ≡ some o) × Accepted (history-of first rs) o
 granted-order first rs =
     let s = granted-sound first rs in

@@ -2,7 +2,7 @@
 --
 -- In order: `swaps`: what holds of every swap of two first steps that are apart holds of every rearrangement; what it does not change:
 -- `run-rearranged`: the run; `last-write-rearranged`: the last write of a cell; `read-follows`: the last write, before a step, of the cell
--- that the step names. Then `run-kept`: a run without the steps of jobs that only read.
+-- that the step names, where it is a read or write. Then `run-kept`: a run without the steps of jobs that only read.
 -- Assumes nothing.
 use mathlib.Core.Path.{_≡_, refl, sym, ap, _∙_, subst, fun-ext}
 use mathlib.Core.Bool.{Bool, true, false, not, cond, true≢false}
@@ -12,8 +12,9 @@ use Prim.Native.Nat.{ℕ}
 use lib.Dec.{T, eqb, not-T}
 use Rattle.graph.specs.Decide.{Decides, eq-test, and-test, own-test, is-false, true-is, false-is}
 use Rattle.graph.specs.Lists.{_∈_, here, later, only, Once, once-head, once-tail}
-use Rattle.history.specs.Events.{Kind, read, write, clash, alters, Step}
-use Rattle.history.specs.LayoutLaws.{Apart, apart-back, Rearranged, done, take}
+use Rattle.history.specs.Events.{Kind, read, write, Deed, does, opening, ending, alters-by, clash, Step}
+use Rattle.history.specs.EventLaws.{altering, alters-before, alters-after}
+use Rattle.history.specs.LayoutLaws.{Apart, Rearranged, done, take}
 use Rattle.history.specs.Run.{Sight, World, Program, put, act-as, run, or-before, writes, last-write}
 
 -- ---- rearranged by swaps
@@ -62,9 +63,9 @@ module _ {ℓ} {X : Type ℓ} where
       ∙ puts-swap h (p (g i)) (q (g j)) g
       ∙ ap (λ x. put i (p x) (put j (q (g j)) g)) (sym (put-other j (q (g j)) g h))
 
--- a step, by its kind
+-- a step, by what it does
 abbrev act {ℓ} : {X : Type ℓ} → Program X → Step → World X → World X
-act f a w = act-as (a .kind) f a w
+act f a w = act-as (a .deed) f a w
 
 -- what a job has read, with one read more
 abbrev and-saw {ℓ} : {X : Type ℓ} → Step → X → List (Sight X) → List (Sight X)
@@ -72,25 +73,30 @@ and-saw a x l = l ++ record { step = a; value = x } ∷ []
 
 module _ {ℓ} {X : Type ℓ} (f : Program X) where
   -- a read and a write of different jobs on different cells, the one first or the other
-  read-write : (a b : Step) → (a .job ≡ b .job → ⊥) → (a .cell ≡ b .cell → ⊥) → (w : World X) → act-as write f b (act-as read f a w) ≡ act-as read f a (act-as write f b w)
+  read-write : (a b : Step) → (a .job ≡ b .job → ⊥) → (a .cell ≡ b .cell → ⊥) → (w : World X)
+      → act-as (does write) f b (act-as (does read) f a w) ≡ act-as (does read) f a (act-as (does write) f b w)
   unfolding act-as
   read-write a b h c w = λ i. record {
     holds = put (b .cell) (f b (put-other (a .job) (and-saw a (w .holds (a .cell)) (w .seen (a .job))) (w .seen) (λ e. h (sym e)) i)) (w .holds);
     seen = put (a .job) (and-saw a (sym (put-other (b .cell) (f b (w .seen (b .job))) (w .holds) c) i) (w .seen (a .job))) (w .seen);
   }
 
-  -- any two steps of different jobs, on different cells if their kinds clash
-  acts-swap : (k l : Kind) (a b : Step) → (a .job ≡ b .job → ⊥) → (T (clash k l) → a .cell ≡ b .cell → ⊥) → (w : World X)
-      → act-as l f b (act-as k f a w) ≡ act-as k f a (act-as l f b w)
+  -- any two steps of different jobs, on different cells if their deeds clash
+  acts-swap : (d e : Deed) (a b : Step) → (a .job ≡ b .job → ⊥) → (T (clash d e) → a .cell ≡ b .cell → ⊥) → (w : World X)
+      → act-as e f b (act-as d f a w) ≡ act-as d f a (act-as e f b w)
   unfolding act-as
-  acts-swap read read a b h c w = λ i. record { holds = w .holds; seen = changes-swap h (and-saw a (w .holds (a .cell))) (and-saw b (w .holds (b .cell))) (w .seen) i }
-  acts-swap read write a b h c w = read-write a b h (c tt) w
-  acts-swap write read a b h c w = sym (read-write b a (λ e. h (sym e)) (λ e. c tt (sym e)) w)
-  acts-swap write write a b h c w = λ i. record { holds = puts-swap (c tt) (f a (w .seen (a .job))) (f b (w .seen (b .job))) (w .holds) i; seen = w .seen }
+  acts-swap (does read) (does read) a b h c w = λ i. record { holds = w .holds; seen = changes-swap h (and-saw a (w .holds (a .cell))) (and-saw b (w .holds (b .cell))) (w .seen) i }
+  acts-swap (does read) (does write) a b h c w = read-write a b h (c tt) w
+  acts-swap (does write) (does read) a b h c w = sym (read-write b a (λ e. h (sym e)) (λ e. c tt (sym e)) w)
+  acts-swap (does write) (does write) a b h c w = λ i. record { holds = puts-swap (c tt) (f a (w .seen (a .job))) (f b (w .seen (b .job))) (w .holds) i; seen = w .seen }
+  acts-swap (does k) opening a b h c w = refl
+  acts-swap (does k) ending a b h c w = refl
+  acts-swap opening e a b h c w = refl
+  acts-swap ending e a b h c w = refl
 
   -- steps that are apart do the same one first or the other
   apart-swap : {a b : Step} → Apart a b → (w : World X) → act f b (act f a w) ≡ act f a (act f b w)
-  apart-swap {a} {b} p w = acts-swap (a .kind) (b .kind) a b (p .others) (λ t e. p .calm (record { others = p .others; same-cell = e; clashes = t })) w
+  apart-swap {a} {b} p w = acts-swap (a .deed) (b .deed) a b (p .others) (λ t e. p .calm (record { others = p .others; same-cell = e; clashes = t })) w
 
   -- so the run is left as it is by a swap
   run-steady : Steady (λ s t. (w : World X) → run f s w ≡ run f t w)
@@ -108,26 +114,27 @@ run-rearranged r f w = swaps (run-steady f) r w
 -- ---- the last write
 
 -- a step writes a cell: it names the cell, and it alters it
-writes-test : (c : ℕ) (a : Step) → Decides (writes c a) ((a .cell ≡ c) × T (alters (a .kind)))
+writes-test : (c : ℕ) (a : Step) → Decides (writes c a) ((a .cell ≡ c) × T (alters-by (a .deed)))
 unfolding writes
-writes-test c a = and-test (eq-test (a .cell) c) (own-test (alters (a .kind)))
+writes-test c a = and-test (eq-test (a .cell) c) (own-test (alters-by (a .deed)))
 
--- what alters its cell clashes with everything
-alters-clash : (k l : Kind) → T (alters k) → T (clash k l)
-alters-clash read l t = absurd t
-alters-clash write read t = tt
-alters-clash write write t = tt
+-- of two steps that are apart, if the second is a read or write, the first does not write its cell, and if the first is one, the second does not write its
+module _ {a b : Step} (p : Apart a b) {k : Kind} where
+  apart-writes : b .deed ≡ does k → T (writes (b .cell) a) → ⊥
+  apart-writes q t =
+      let r = writes-test (b .cell) a .holds t in
+      p .calm (record { others = p .others; same-cell = r .0; clashes = alters-before (a .deed) q (r .1) })
 
--- a step that is apart from b does not write b's cell
-apart-writes : {a b : Step} → Apart a b → T (writes (b .cell) a) → ⊥
-apart-writes {a} {b} p t =
-    let r = writes-test (b .cell) a .holds t in
-    p .calm (record { others = p .others; same-cell = r .0; clashes = alters-clash (a .kind) (b .kind) (r .1) })
+  apart-written : a .deed ≡ does k → T (writes (a .cell) b) → ⊥
+  apart-written q t =
+      let r = writes-test (a .cell) b .holds t in
+      p .calm (record { others = p .others; same-cell = sym (r .0); clashes = alters-after (b .deed) q (r .1) })
 
 -- of two steps that are apart one at most writes the cell, so the last write is left as it is by a swap
 last-write-swap : (c : ℕ) {a x : Step} (s : List Step) → Apart a x → last-write c (a ∷ x ∷ s) ≡ last-write c (x ∷ a ∷ s)
 last-write-swap c {a} {x} s p =
-    go (last-write c s) (writes c a) (writes c x) (λ t u. apart-writes p (subst (λ n. T (writes n a)) (sym (writes-test c x .holds u .0)) t))
+    go (last-write c s) (writes c a) (writes c x)
+    (λ t u. let v = writes-test c x .holds u in apart-writes p (altering (x .deed) (v .1) .1) (subst (λ n. T (writes n a)) (sym (v .0)) t))
   where
     go : (o : Option Step) (b d : Bool) → (T b → T d → ⊥)
         → or-before (or-before o (cond d (some x) none)) (cond b (some a) none) ≡ or-before (or-before o (cond b (some a) none)) (cond d (some x) none)
@@ -172,7 +179,7 @@ module _ {r : Step} where
   place-one o (past m) (found e) = absurd (once-head o (Memᴰ·cast e (place-in m)))
   place-one o (past {x = x} m) (past n) = ap (λ l. x ∷ l) (place-one (once-tail o) m n)
 
-module _ (r : Step) where
+module _ (r : Step) {k : Kind} (is : r .deed ≡ does k) where
   -- r stands in s, after a list in which the last write of its cell is o
   abbrev Sees : List Step → Option Step → Type 0
   Sees s o = (p : List Step) × Place r p s × (last-write (r .cell) p ≡ o)
@@ -186,15 +193,16 @@ module _ (r : Step) where
   sees-under x f q (found e) = ([], found e, refl)
   sees-under x f q (past {p = l} m) = let (p, n, e) = f l m in (x ∷ p, past n, last-write-steady (r .cell) .under x {s = p} {t = l} e)
 
-  -- r sees nothing of a step that is apart from it
-  sees-none : {a x : Step} → Apart a x → x ≡ r → last-write (r .cell) (a ∷ []) ≡ none
-  sees-none {a} {x} p e =
-      ap (λ (b : Bool). cond b (some a) none) {x = writes (r .cell) a} (is-false (λ t. apart-writes p (subst (λ (z : Step). T (writes (z .cell) a)) (sym e) t)))
+  -- r sees nothing of a step that does not write its cell
+  sees-none : (x : Step) → (T (writes (r .cell) x) → ⊥) → last-write (r .cell) (x ∷ []) ≡ none
+  sees-none x f = ap (λ (b : Bool). cond b (some x) none) {x = writes (r .cell) x} (is-false f)
 
   -- so it sees the same before a swap and after it
   sees-swap : {a x : Step} (s : List Step) → Apart a x → Follows (a ∷ x ∷ s) (x ∷ a ∷ s)
-  sees-swap {a} s p q (found e) = (a ∷ [], past (found e), sees-none p e)
-  sees-swap s p q (past (found e)) = ([], found e, sym (sees-none (apart-back p) e))
+  sees-swap {a} {x} s p q (found e) =
+      (a ∷ [], past (found e), sees-none a (λ t. apart-writes p (ap (λ (z : Step). z .deed) e ∙ is) (subst (λ (z : Step). T (writes (z .cell) a)) (sym e) t)))
+  sees-swap {a} {x} s p q (past (found e)) =
+      ([], found e, sym (sees-none x (λ t. apart-written p (ap (λ (z : Step). z .deed) e ∙ is) (subst (λ (z : Step). T (writes (z .cell) x)) (sym e) t))))
   sees-swap {a} {x} s p q (past (past {p = l} m)) = (a ∷ x ∷ l, past (past m), last-write-swap (r .cell) l p)
 
   follows-steady : Steady Follows
@@ -206,10 +214,10 @@ module _ (r : Step) where
   }
 
 -- each read sees the same write in a rearrangement, and each write follows the same one: the last write of its cell before it is the same
-pub read-follows : {s t : List Step} → Once s → Rearranged s t → (r : Step) (p q p′ q′ : List Step) → s ≡ p ++ r ∷ q → t ≡ p′ ++ r ∷ q′
+pub read-follows : {s t : List Step} → Once s → Rearranged s t → (r : Step) {k : Kind} → r .deed ≡ does k → (p q p′ q′ : List Step) → s ≡ p ++ r ∷ q → t ≡ p′ ++ r ∷ q′
     → last-write (r .cell) p ≡ last-write (r .cell) p′
-read-follows o w r p q p′ q′ e d =
-    let (l, m, z) = swaps (follows-steady r) w p′ (subst (Place r p′) (sym d) (place p′ q′)) in
+read-follows o w r is p q p′ q′ e d =
+    let (l, m, z) = swaps (follows-steady r is) w p′ (subst (Place r p′) (sym d) (place p′ q′)) in
     ap (last-write (r .cell)) (place-one o (subst (Place r p) (sym e) (place p q)) m) ∙ z
 
 -- ---- reads left out
@@ -225,23 +233,27 @@ of-jobs g s = only (λ a. g (a .job)) s
 
 -- the other jobs only read
 abbrev OthersRead : (ℕ → Bool) → List Step → Type 0
-OthersRead g s = (a : Step) → a ∈ s → T (not (g (a .job))) → alters (a .kind) ≡ false
+OthersRead g s = (a : Step) → a ∈ s → T (not (g (a .job))) → alters-by (a .deed) ≡ false
 
 module _ {ℓ} {X : Type ℓ} (g : ℕ → Bool) (f : Program X) where
   -- a step of a job of g does the same in both worlds
-  alike-act : (k : Kind) (a : Step) {w w′ : World X} → T (g (a .job)) → Alike g w w′ → Alike g (act-as k f a w) (act-as k f a w′)
+  alike-act : (d : Deed) (a : Step) {w w′ : World X} → T (g (a .job)) → Alike g w w′ → Alike g (act-as d f a w) (act-as d f a w′)
   unfolding act-as put
-  alike-act read a t h =
+  alike-act (does read) a t h =
       record { cells = h .cells; shown = λ j u i. cond (eqb j (a .job)) (and-saw a (h .cells (a .cell) i) (h .shown (a .job) t i)) (h .shown j u i) }
-  alike-act write a t h = record { cells = λ c i. cond (eqb c (a .cell)) (f a (h .shown (a .job) t i)) (h .cells c i); shown = h .shown }
+  alike-act (does write) a t h = record { cells = λ c i. cond (eqb c (a .cell)) (f a (h .shown (a .job) t i)) (h .cells c i); shown = h .shown }
+  alike-act opening a t h = h
+  alike-act ending a t h = h
 
-  -- and a step of another job, which is a read, does nothing that counts
-  alike-skip : (k : Kind) (a : Step) {w w′ : World X} → g (a .job) ≡ false → alters k ≡ false → Alike g w w′ → Alike g w (act-as k f a w′)
+  -- and a step of another job, which is no write, does nothing that counts
+  alike-skip : (d : Deed) (a : Step) {w w′ : World X} → g (a .job) ≡ false → alters-by d ≡ false → Alike g w w′ → Alike g w (act-as d f a w′)
   unfolding act-as
-  alike-skip read a {w} {w′} n e h =
+  alike-skip (does read) a {w} {w′} n e h =
       let new = and-saw a (w′ .holds (a .cell)) (w′ .seen (a .job)) in
       record { cells = h .cells; shown = λ j u. h .shown j u ∙ sym (put-other (a .job) new (w′ .seen) (λ d. false-is n (subst (λ (z : ℕ). T (g z)) d u))) }
-  alike-skip write a n e h = absurd (true≢false e)
+  alike-skip (does write) a n e h = absurd (true≢false e)
+  alike-skip opening a n e h = h
+  alike-skip ending a n e h = h
 
   -- so two worlds alike stay alike, where one runs without the steps of the other jobs
   alike-run : (s : List Step) → OthersRead g s → (w w′ : World X) → Alike g w w′ → Alike g (run f (of-jobs g s) w) (run f s w′)
@@ -250,8 +262,8 @@ module _ {ℓ} {X : Type ℓ} (g : ℕ → Bool) (f : Program X) where
     where
       go : (b : Bool) → g (a .job) ≡ b → ((v : World X) → Alike g v (act f a w′) → Alike g (run f (of-jobs g s) v) (run f s (act f a w′)))
           → Alike g (run f (cond b (a ∷ of-jobs g s) (of-jobs g s)) w) (run f s (act f a w′))
-      go true e rest = rest (act f a w) (alike-act (a .kind) a (true-is e) h)
-      go false e rest = rest w (alike-skip (a .kind) a e (k a here (not-T (g (a .job)) (false-is e))) h)
+      go true e rest = rest (act f a w) (alike-act (a .deed) a (true-is e) h)
+      go false e rest = rest w (alike-skip (a .deed) a e (k a here (not-T (g (a .job)) (false-is e))) h)
 
 -- leaving out the steps of some jobs, all of them reads, changes neither the cells nor what the jobs that are kept see
 pub run-kept {ℓ} : {X : Type ℓ} (g : ℕ → Bool) (s : List Step) → OthersRead g s → (f : Program X) (w : World X)

@@ -11,8 +11,8 @@ use native.Mathlib.Nat.{add-zero, zero-add, suc-add, add-suc}
 use lib.Dec.{T, eqb}
 use lib.ListN.{length, length-append}
 use Rattle.graph.specs.Decide.{Decides, and-test, not-test, eq-test, own-test, same-test, some-test, test-true}
-use Rattle.graph.specs.Lists.{_∈_, only, only-yes, only-append, only-keeps, only-from, only-same, only-only, Before, before-nil, before-cons, before-append, strike, mem-test}
-use Rattle.history.specs.Events.{Kind, alters, Event, opens, steps, ends, abandons, History, gather, opened-by, ended-by, abandoned-by, has, opened, ended, abandoned, kept, open-now, Step, step-by, steps-from, all-steps, kept-steps, wrote}
+use Rattle.graph.specs.Lists.{_∈_, here, only, only-yes, only-append, only-keeps, only-from, only-same, only-only, Before, before-nil, before-cons, before-append, strike, mem-test}
+use Rattle.history.specs.Events.{Kind, does, opening, ending, alters-by, Event, opens, steps, ends, abandons, History, gather, opened-by, ended-by, abandoned-by, has, opened, ended, abandoned, kept, open-now, Step, step-at, step-by, steps-from, all-steps, kept-steps, wrote}
 use Rattle.history.specs.Replies.{cells}
 use Rattle.history.specs.Turns.{InTurn, InTurnAfter, Turns}
 
@@ -173,23 +173,24 @@ module _ (h : History) (j : ℕ) where
 
   -- ---- kept steps
 
-  pub kept-opens : kept-steps (h ++ opens j ∷ []) ≡ kept-steps h
+  -- what a job that is not abandoned does is kept, at its place
+  kept-more : (e : Event) (a : Step) → abandoned (h ++ e ∷ []) ≡ abandoned h → all-steps (h ++ e ∷ []) ≡ all-steps h ++ a ∷ [] → (a .job ∈ abandoned h → ⊥)
+      → kept-steps (h ++ e ∷ []) ≡ kept-steps h ++ a ∷ []
   unfolding kept-steps keep-of
-  kept-opens = kept-when h (opens j) (stays (abandoned-grows h (opens j))) (stays (all-steps-grows h (opens j)))
-
-  pub kept-ends : kept-steps (h ++ ends j ∷ []) ≡ kept-steps h
-  unfolding kept-steps keep-of
-  kept-ends = kept-when h (ends j) (stays (abandoned-grows h (ends j))) (stays (all-steps-grows h (ends j)))
-
-  -- a step of a job that is not abandoned is kept, at its place
-  pub kept-step : (k : Kind) (c : ℕ) → (j ∈ abandoned h → ⊥) → kept-steps (h ++ steps k j c ∷ []) ≡ kept-steps h ++ record { at = length h; kind = k; job = j; cell = c } ∷ []
-  unfolding kept-steps keep-of
-  kept-step k c na =
-      let e = steps k j c in
+  kept-more e a q r na =
       let p : Step → Bool = λ x. not (has (abandoned h) (x .job)) in
-      kept-when h e (stays (abandoned-grows h e)) (all-steps-grows h e .joined)
-      ∙ only-append p (all-steps h) (step-by (length h) e)
-      ∙ ap (λ (l : List Step). only p (all-steps h) ++ l) (only-yes p (record { at = length h; kind = k; job = j; cell = c }) [] (test-true (not-test (has-test (abandoned h) j)) na))
+      kept-when h e q r
+      ∙ only-append p (all-steps h) (a ∷ [])
+      ∙ ap (λ (l : List Step). only p (all-steps h) ++ l) (only-yes p a [] (test-true (not-test (has-test (abandoned h) (a .job))) na))
+
+  pub kept-opens : (j ∈ abandoned h → ⊥) → kept-steps (h ++ opens j ∷ []) ≡ kept-steps h ++ step-at (length h) opening j 0 ∷ []
+  kept-opens = kept-more (opens j) (step-at (length h) opening j 0) (stays (abandoned-grows h (opens j))) (all-steps-grows h (opens j) .joined)
+
+  pub kept-step : (k : Kind) (c : ℕ) → (j ∈ abandoned h → ⊥) → kept-steps (h ++ steps k j c ∷ []) ≡ kept-steps h ++ step-at (length h) (does k) j c ∷ []
+  kept-step k c = kept-more (steps k j c) (step-at (length h) (does k) j c) (stays (abandoned-grows h (steps k j c))) (all-steps-grows h (steps k j c) .joined)
+
+  pub kept-ends : (j ∈ abandoned h → ⊥) → kept-steps (h ++ ends j ∷ []) ≡ kept-steps h ++ step-at (length h) ending j 0 ∷ []
+  kept-ends = kept-more (ends j) (step-at (length h) ending j 0) (stays (abandoned-grows h (ends j))) (all-steps-grows h (ends j) .joined)
 
   -- an abandon takes the job's steps out
   pub kept-abandons : kept-steps (h ++ abandons j ∷ []) ≡ only (λ x. not (eqb (x .job) j)) (kept-steps h)
@@ -205,19 +206,44 @@ pub record Orderly (h : History) : Type 0 where
   pub real : (a : Step) → a ∈ all-steps h → a .cell < cells
   pub ended-opened : (j : ℕ) → j ∈ ended h → j ∈ opened h
   pub abandoned-opened : (j : ℕ) → j ∈ abandoned h → j ∈ opened h
+  pub ended-kept : (j : ℕ) → j ∈ ended h → j ∈ abandoned h → ⊥
   pub rising : (i j : ℕ) → Before i j (opened h) → i < j
   pub places : (a : Step) → a ∈ all-steps h → a .at < length h
   pub in-places : (a b : Step) → Before a b (all-steps h) → a .at < b .at
-  pub only-read : (a : Step) → a ∈ all-steps h → a .job ∈ abandoned h → T (alters (a .kind)) → ⊥
+  pub only-read : (a : Step) → a ∈ all-steps h → a .job ∈ abandoned h → T (alters-by (a .deed)) → ⊥
+  pub opened-last : (a b : Step) → Before a b (all-steps h) → b .deed ≡ opening → a .job < b .job
 
 -- what the new event brings
-step-new : (h : History) (e : Event) {a : Step} → InTurn h e → a ∈ step-by (length h) e → (a .job ∈ open-now h) × (a .cell < cells) × (a .at ≡ length h)
-step-new h (opens j) t m = absurd (List·Memᴰ·not-nil m)
-step-new h (steps k j c) {a} t m =
-    let q : a ≡ record { at = length h; kind = k; job = j; cell = c } = List·Memᴰ·eq-of-singleton m in
-    (Memᴰ·cast (ap (λ (x : Step). x .job) q) (t .0), subst (λ (x : Step). x .cell < cells) (sym q) (t .1), ap (λ (x : Step). x .at) q)
-step-new h (ends j) t m = absurd (List·Memᴰ·not-nil m)
-step-new h (abandons j) t m = absurd (List·Memᴰ·not-nil m)
+record Brought (h : History) (jobs : List ℕ) (a : Step) : Type 0 where
+  its-opened : a .job ∈ jobs
+  its-real : a .cell < cells
+  its-place : a .at ≡ length h
+  its-kept : a .job ∈ abandoned h → ⊥
+
+step-new : {h : History} (e : Event) {a : Step} → Orderly h → InTurn h e → a ∈ step-by (length h) e → Brought h (opened (h ++ e ∷ [])) a
+step-new {h} (opens j) o t m =
+    subst (Brought h (opened (h ++ opens j ∷ []))) (sym (List·Memᴰ·eq-of-singleton m))
+    (record { its-opened = new-in (opened-grows h (opens j)) here; its-real = omega arith; its-place = refl; its-kept = λ n. let q = t j (o .abandoned-opened j n) in omega arith })
+step-new {h} (steps k j c) o t m =
+    subst (Brought h (opened (h ++ steps k j c ∷ []))) (sym (List·Memᴰ·eq-of-singleton m))
+    (record { its-opened = old-in (opened-grows h (steps k j c)) (open-opened h (t .0)); its-real = t .1; its-place = refl; its-kept = open-not-abandoned h (t .0) })
+step-new {h} (ends j) o t m =
+    subst (Brought h (opened (h ++ ends j ∷ []))) (sym (List·Memᴰ·eq-of-singleton m))
+    (record { its-opened = old-in (opened-grows h (ends j)) (open-opened h t); its-real = omega arith; its-place = refl; its-kept = open-not-abandoned h t })
+step-new (abandons j) o t m = absurd (List·Memᴰ·not-nil m)
+
+-- an opening is of a job above all that were opened before
+opening-new : (h : History) (e : Event) {b : Step} {i : ℕ} → InTurn h e → i ∈ opened h → b ∈ step-by (length h) e → b .deed ≡ opening → i < b .job
+opening-new h (opens j) {i = i} t m n d = subst (λ (x : Step). i < x .job) (sym (List·Memᴰ·eq-of-singleton n)) (t i m)
+opening-new h (steps k j c) {b} t m n d = absurd (let q : b ≡ step-at (length h) (does k) j c = List·Memᴰ·eq-of-singleton n in other k (sym (ap (λ (x : Step). x .deed) q) ∙ d))
+  where
+    other : (k : Kind) → does k ≡ opening → ⊥
+    other k e = let z : _≡_ {A = ℕ} 0 1 = cc in omega arith
+opening-new h (ends j) {b} t m n d = absurd (let q : b ≡ step-at (length h) ending j 0 = List·Memᴰ·eq-of-singleton n in other (sym (ap (λ (x : Step). x .deed) q) ∙ d))
+  where
+    other : ending ≡ opening → ⊥
+    other e = let z : _≡_ {A = ℕ} 0 1 = cc in omega arith
+opening-new h (abandons j) t m n d = absurd (List·Memᴰ·not-nil n)
 
 ended-new : (h : History) (e : Event) {i : ℕ} → InTurn h e → i ∈ ended-by e → i ∈ open-now h
 ended-new h (opens j) t m = absurd (List·Memᴰ·not-nil m)
@@ -239,7 +265,7 @@ opened-new h (steps k n c) t m o = absurd (List·Memᴰ·not-nil o)
 opened-new h (ends n) t m o = absurd (List·Memᴰ·not-nil o)
 opened-new h (abandons n) t m o = absurd (List·Memᴰ·not-nil o)
 
--- an event brings one job or step at the most, and not both a step and an abandon
+-- an event brings one job or step at the most, and with an abandon neither a step nor an end
 single : {X : Type 0} {a b x : X} → Before a b (x ∷ []) → ⊥
 single r = ⊎-elim (λ q. List·Memᴰ·not-nil (q .1)) before-nil (before-cons r)
 
@@ -249,22 +275,28 @@ opened-single (steps k n c) r = before-nil r
 opened-single (ends n) r = before-nil r
 opened-single (abandons n) r = before-nil r
 
-step-single : (n : ℕ) (e : Event) {a b : Step} → Before a b (step-by n e) → ⊥
-step-single n (opens j) r = before-nil r
+pub step-single : (n : ℕ) (e : Event) {a b : Step} → Before a b (step-by n e) → ⊥
+step-single n (opens j) r = single r
 step-single n (steps k j c) r = single r
-step-single n (ends j) r = before-nil r
+step-single n (ends j) r = single r
 step-single n (abandons j) r = before-nil r
 
 not-both : (n : ℕ) (e : Event) {a : Step} {i : ℕ} → a ∈ step-by n e → i ∈ abandoned-by e → ⊥
-not-both n (opens j) m o = List·Memᴰ·not-nil m
+not-both n (opens j) m o = List·Memᴰ·not-nil o
 not-both n (steps k j c) m o = List·Memᴰ·not-nil o
-not-both n (ends j) m o = List·Memᴰ·not-nil m
+not-both n (ends j) m o = List·Memᴰ·not-nil o
 not-both n (abandons j) m o = List·Memᴰ·not-nil m
 
+not-both-ways : (e : Event) {i j : ℕ} → i ∈ ended-by e → j ∈ abandoned-by e → ⊥
+not-both-ways (opens n) m o = List·Memᴰ·not-nil m
+not-both-ways (steps k n c) m o = List·Memᴰ·not-nil m
+not-both-ways (ends n) m o = List·Memᴰ·not-nil o
+not-both-ways (abandons n) m o = List·Memᴰ·not-nil m
+
 -- a step that alters its cell is a write of its job
-pub wrote-if : (h : History) (a : Step) → a ∈ all-steps h → T (alters (a .kind)) → T (wrote h (a .job))
+pub wrote-if : (h : History) (a : Step) → a ∈ all-steps h → T (alters-by (a .deed)) → T (wrote h (a .job))
 unfolding wrote
-wrote-if h a m t = some-test (λ (x : Step). and-test (eq-test (x .job) (a .job)) (own-test (alters (x .kind)))) (all-steps h) .shows (a, m, (refl, t))
+wrote-if h a m t = some-test (λ (x : Step). and-test (eq-test (x .job) (a .job)) (own-test (alters-by (x .deed)))) (all-steps h) .shows (a, m, (refl, t))
 
 pub orderly-start : Orderly []
 unfolding opened ended abandoned all-steps
@@ -274,10 +306,12 @@ orderly-start =
       real = λ a m. absurd (List·Memᴰ·not-nil m);
       ended-opened = λ j m. absurd (List·Memᴰ·not-nil m);
       abandoned-opened = λ j m. absurd (List·Memᴰ·not-nil m);
+      ended-kept = λ j m n. List·Memᴰ·not-nil m;
       rising = λ i j r. absurd (before-nil r);
       places = λ a m. absurd (List·Memᴰ·not-nil m);
       in-places = λ a b r. absurd (before-nil r);
       only-read = λ a m o t. List·Memᴰ·not-nil m;
+      opened-last = λ a b r d. absurd (before-nil r);
     }
 
 pub orderly-next : {h : History} (e : Event) → Orderly h → InTurn h e → Orderly (h ++ e ∷ [])
@@ -287,17 +321,22 @@ orderly-next {h} e o t =
     let sa = abandoned-grows h e in
     let ss = all-steps-grows h e in
     record {
-      stepped = λ a m. old-in so (⊎-elim (o .stepped a) (λ n. open-opened h (step-new h e t n .0)) (which-in ss m));
-      real = λ a m. ⊎-elim (o .real a) (λ n. step-new h e t n .1) (which-in ss m);
+      stepped = λ a m. ⊎-elim (λ n. old-in so (o .stepped a n)) (λ n. step-new e o t n .its-opened) (which-in ss m);
+      real = λ a m. ⊎-elim (o .real a) (λ n. step-new e o t n .its-real) (which-in ss m);
       ended-opened = λ j m. old-in so (⊎-elim (o .ended-opened j) (λ n. open-opened h (ended-new h e t n)) (which-in se m));
       abandoned-opened = λ j m. old-in so (⊎-elim (o .abandoned-opened j) (λ n. open-opened h (abandoned-new h e t n .0)) (which-in sa m));
+      ended-kept = λ j m n. ⊎-elim
+          (λ jo. ⊎-elim (o .ended-kept j jo) (λ an. open-from h (abandoned-new h e t an .0) .1 jo) (which-in sa n))
+          (λ jn. ⊎-elim (open-not-abandoned h (ended-new h e t jn)) (not-both-ways e jn) (which-in sa n))
+          (which-in se m);
       rising = λ i j r. ⊎-elim (o .rising i j) (⊎-elim (λ q. opened-new h e t (q .0) (q .1)) (λ q. absurd (opened-single e q))) (which-before so r);
-      places = λ a m. ⊎-elim (λ n. let q = o .places a n in omega (arith, length-append h (e ∷ []))) (λ n. let q = step-new h e t n .2 in omega (arith, length-append h (e ∷ []))) (which-in ss m);
-      in-places = λ a b r. ⊎-elim (o .in-places a b) (⊎-elim (λ q. let x = o .places a (q .0) in let y = step-new h e t (q .1) .2 in omega arith) (λ q. absurd (step-single (length h) e q))) (which-before ss r);
+      places = λ a m. ⊎-elim (λ n. let q = o .places a n in omega (arith, length-append h (e ∷ []))) (λ n. let q = step-new e o t n .its-place in omega (arith, length-append h (e ∷ []))) (which-in ss m);
+      in-places = λ a b r. ⊎-elim (o .in-places a b) (⊎-elim (λ q. let x = o .places a (q .0) in let y = step-new e o t (q .1) .its-place in omega arith) (λ q. absurd (step-single (length h) e q))) (which-before ss r);
       only-read = λ a m n w. ⊎-elim
           (λ ao. ⊎-elim (λ jo. o .only-read a ao jo w) (λ jn. abandoned-new h e t jn .1 (wrote-if h a ao w)) (which-in sa n))
-          (λ an. ⊎-elim (λ jo. open-not-abandoned h (step-new h e t an .0) jo) (λ jn. not-both (length h) e an jn) (which-in sa n))
+          (λ an. ⊎-elim (step-new e o t an .its-kept) (λ jn. not-both (length h) e an jn) (which-in sa n))
           (which-in ss m);
+      opened-last = λ a b r d. ⊎-elim (λ q. o .opened-last a b q d) (⊎-elim (λ q. opening-new h e t (o .stepped a (q .0)) (q .1) d) (λ q. absurd (step-single (length h) e q))) (which-before ss r);
     }
 
 pub orderly-after : {h : History} (es : List Event) → Orderly h → InTurnAfter h es → Orderly (h ++ es)

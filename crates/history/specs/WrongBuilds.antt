@@ -1,7 +1,7 @@
--- Eight plausible builds that are wrong: each a rule over the same memory as the right one, with a history on which it does not reply as
+-- Nine plausible builds that are wrong: each a rule over the same memory as the right one, with a history on which it does not reply as
 -- the full history does. One table under one statement (`wrong-builds`), computed from the definitions.
 --
--- Five fail a P case. Three pass all of them, so each fails a history of our own (`own-cases` of Cases).
+-- Six fail a P case. Three pass all of them, so each fails a history of our own (`own-cases` of Cases).
 --
 -- And of any arbiter whatever, with states of any sort, that answers as the full history does (`Exact`): it does not refuse every step (`grants-some`), nor let
 -- every step through (`refuses-some`), its state moves at a step (`moves-at-a-step`), and moves truly at a job's later steps too (`later-steps-count`).
@@ -12,21 +12,32 @@ use mathlib.Core.List.{List, [], _∷_, _++_, map}
 use Prim.Native.Nat.{ℕ, zero, suc}
 use native.Mathlib.Omega.{arith}
 use lib.Dec.{T, eqb}
-use Rattle.graph.specs.Lists.{_∈_}
+use Rattle.graph.specs.Lists.{_∈_, only}
 use Rattle.graph.specs.Reach.{reach}
-use Rattle.history.specs.Events.{Kind, read, write, has, Step, all-steps}
+use Rattle.history.specs.Events.{Kind, read, write, Deed, does, opening, ending, History, has, Step, all-steps}
 use Rattle.history.specs.Replies.{Request, Reply, a-step, want, reply-of, granted-of, replies, history-of}
-use Rattle.history.specs.Memory.{Footprint, Memory, fresh, meets, step-in, blank, fold, Rule, right, move-all, held, held-replies}
-use Rattle.history.specs.Cases.{open-one, reads, writes, granted, refused, Case, requests-of, replies-of, Outcome, expected, computed, p2, p3, p4, p5, p6, p7, p-table, past-of-ended, leads-of-ended, chain-abandoned, rows}
+use Rattle.history.specs.Memory.{Footprint, Memory, fresh, meets, step-in, open-in, blank, fold, Rule, right, move-all, held, held-replies}
+use Rattle.history.specs.Cases.{open-one, reads, writes, granted, refused, Case, requests-of, replies-of, Outcome, expected, computed, p1, p2, p3, p4, p5, p6, p7, p8, p-table, past-of-ended, leads-of-ended, chain-abandoned, rows}
 
 -- ---- the builds
 
+-- an open as the right rule has it, and a read or write
+abbrev open-by : Memory → ℕ → Memory
+open-by m j = step-in (open-in m j) opening j 0
+
+abbrev does-in : Memory → Kind → ℕ → ℕ → Memory
+does-in m k j c = step-in m (does k) j c
+
+-- an end, its job's end marked among its own, by what then passes its sets on
+abbrev end-by : (Memory → ℕ → Memory) → Memory → ℕ → Memory
+end-by f m j = blank (f (step-in m ending j 0) j) j
+
 -- a rule that differs from the right one at a step only, at an end only
 abbrev steps-by : (Memory → Kind → ℕ → ℕ → Memory) → Rule
-steps-by f = record { at-step = f; at-end = λ m j. blank (fold m j) j; at-abandon = blank }
+steps-by f = record { at-open = open-by; at-step = f; at-end = end-by fold; at-abandon = blank }
 
 abbrev ends-by : (Memory → ℕ → Memory) → Rule
-ends-by f = record { at-step = step-in; at-end = λ m j. blank (f m j) j; at-abandon = blank }
+ends-by f = record { at-open = open-by; at-step = does-in; at-end = end-by f; at-abandon = blank }
 
 -- a memory with other pasts, with other leads
 abbrev with-past : Memory → (ℕ → Footprint) → Memory
@@ -36,12 +47,12 @@ abbrev with-leads : Memory → (ℕ → ℕ → Bool) → Memory
 with-leads m f = record { next = m .next; jobs = m .jobs; own = m .own; past = m .past; leads = f }
 
 -- a step of j by which the jobs that pass the test t come to lead to it
-abbrev step-by : (Memory → Kind → ℕ → ℕ → ℕ → Bool) → Memory → Kind → ℕ → ℕ → Memory
-step-by t m k j c = with-leads (step-in m k j c) (λ i x. m .leads i x || (eqb x j && t m k j c i))
+abbrev step-by : (Memory → Deed → ℕ → ℕ → ℕ → Bool) → Memory → Kind → ℕ → ℕ → Memory
+step-by t m k j c = with-leads (does-in m k j c) (λ i x. m .leads i x || (eqb x j && t m (does k) j c i))
 
 -- a fold without the past of j
 abbrev fold-own : Memory → ℕ → Memory
-fold-own m j = with-past (fold m j) (λ i k c. m .past i k c || (m .leads i j && m .own j k c))
+fold-own m j = with-past (fold m j) (λ i d c. m .past i d c || (m .leads i j && m .own j d c))
 
 -- (a) what a job has read and written is forgotten when it ends. Fails P4
 abbrev pub sets-dropped : Rule
@@ -52,20 +63,21 @@ sets-dropped = ends-by (λ m j. m)
 abbrev pub direct-only : Rule
 direct-only =
     record {
-      at-step = step-by (λ m k j c i. (not (eqb i j) && meets (m .own i) k c) || (eqb i j && meets (m .past i) k c));
-      at-end = λ m j. blank (with-leads (fold-own m j) (m .leads)) j;
+      at-open = open-by;
+      at-step = step-by (λ m d j c i. (not (eqb i j) && meets (m .own i) d c) || (eqb i j && meets (m .past i) d c));
+      at-end = end-by (λ m j. with-leads (fold-own m j) (m .leads));
       at-abandon = blank;
     }
 
 -- (c) a chain through open jobs is put down as a lead at every step, and an abandon takes out only the leads from and to its job. Fails P6
 abbrev pub closed-over-open : Rule
-closed-over-open = steps-by (λ m k j c. let n = step-in m k j c in with-leads n (reach (n .leads) (n .jobs)))
+closed-over-open = steps-by (λ m k j c. let n = does-in m k j c in with-leads n (reach (n .leads) (n .jobs)))
 
 -- (d) a job is in conflict with itself where it comes back to a cell. Fails P7
 abbrev pub own-counted : Rule
-own-counted = steps-by (step-by (λ m k j c i. meets (m .own i) k c || meets (m .past i) k c))
+own-counted = steps-by (step-by (λ m d j c i. meets (m .own i) d c || meets (m .past i) d c))
 
--- (e) who ends first is to come first: an ended job leads to all that are still open, so who led to it now leads to itself. Fails P3
+-- (e) who ends first is to come first: an ended job leads to all that are still open, so who led to it now leads to itself. Passes P3, fails P4
 abbrev pub by-end-time : Rule
 by-end-time = ends-by (λ m j. with-leads (fold m j) (λ i x. m .leads i x || (m .leads i j && has (m .jobs) x)))
 
@@ -79,7 +91,11 @@ leads-left-out = ends-by (λ m j. with-leads (fold m j) (m .leads))
 
 -- (h) an end hands on the job's sets also along a chain through open jobs. Passes the P cases, fails chain-abandoned
 abbrev pub folded-through-open : Rule
-folded-through-open = ends-by (λ m j. with-past (fold m j) (λ i k c. m .past i k c || (reach (m .leads) (m .jobs) i j && (m .own j k c || m .past j k c))))
+folded-through-open = ends-by (λ m j. with-past (fold m j) (λ i d c. m .past i d c || (reach (m .leads) (m .jobs) i j && (m .own j d c || m .past j d c))))
+
+-- (i) an opening is compared with nothing, so that a job may come after one that was opened when it had ended. Passes every other P case, fails P3
+abbrev pub real-time-forgotten : Rule
+real-time-forgotten = record { at-open = open-in; at-step = does-in; at-end = end-by fold; at-abandon = blank }
 
 -- ---- what is claimed of a build, and what is found
 
@@ -170,16 +186,16 @@ build-table =
           ∷ granted 1 ∷ [];
       passes = [];
     }
-    -- (e) the write of job 2 on cell 6 is refused
+    -- (e) the write of job 1 on cell 7 is refused
     ∷ record {
       rule = by-end-time;
-      fails = p3;
+      fails = p4;
       gives =
           granted 1 ∷ granted 2
-          ∷ granted 2 ∷ granted 1 ∷ granted 1
-          ∷ granted 3 ∷ granted 3 ∷ granted 3
-          ∷ refused 7 ∷ granted 2 ∷ [];
-      passes = [];
+          ∷ granted 1
+          ∷ granted 2 ∷ granted 2 ∷ granted 2
+          ∷ refused 7 ∷ refused 7 ∷ [];
+      passes = p3 ∷ [];
     }
     -- (f) the read of job 1 on cell 7 is granted
     ∷ record {
@@ -218,12 +234,23 @@ build-table =
           ∷ granted 2 ∷ refused 7 ∷ [];
       passes = p-table;
     }
+    -- (i) the write of job 2 on cell 6 is granted
+    ∷ record {
+      rule = real-time-forgotten;
+      fails = p3;
+      gives =
+          granted 1 ∷ granted 2
+          ∷ granted 2 ∷ granted 1 ∷ granted 1
+          ∷ granted 3 ∷ granted 3 ∷ granted 3
+          ∷ granted 2 ∷ granted 2 ∷ [];
+      passes = p1 ∷ p2 ∷ p4 ∷ p5 ∷ p6 ∷ p7 ∷ p8 ∷ [];
+    }
     ∷ []
 
 -- every build of the table does what is claimed of it
 pub wrong-builds : (b : Build) → b ∈ build-table → found b ≡ claimed b
 unfolding found
-wrong-builds b = rows found claimed (refl, (refl, (refl, (refl, (refl, (refl, (refl, (refl, tt))))))))
+wrong-builds b = rows found claimed (refl, (refl, (refl, (refl, (refl, (refl, (refl, (refl, (refl, tt)))))))))
 
 -- ---- any arbiter
 
@@ -254,6 +281,15 @@ of-memory = record { State = Memory; fresh = fresh; answer = λ m r. reply-of (h
 pub memory-answers : (m : Memory) (rs : List Request) → answers of-memory m rs ≡ held-replies right m rs
 memory-answers m [] = refl
 memory-answers m (r ∷ rs) = ap (λ (l : List Reply). reply-of (held right m) r ∷ l) (memory-answers (move-all right m (granted-of (held right m) r)) rs)
+
+-- the jobs that have read or written
+abbrev is-step : Deed → Bool
+is-step (does k) = true
+is-step opening = false
+is-step ending = false
+
+abbrev pub stepped : History → List ℕ
+stepped h = map (λ (s : Step). s .job) (only (λ (s : Step). is-step (s .deed)) (all-steps h))
 
 -- the code at a place; 8, which is no code, where there is none
 abbrev code-at : ℕ → List Reply → ℕ
@@ -292,7 +328,7 @@ module _ (a : Arbiter) (exact : Exact a) where
 
   -- a job's first step is not the only one that counts: else the write of job 1 would be answered as if job 2 had not written cell 6, after its write of cell 5
   pub later-steps-count :
-      ((first : ℕ) (rs : List Request) (k : Kind) (r q : Request) → want (r .kind) ≡ a-step k → T (has (map (λ (s : Step). s .job) (all-steps (history-of first rs))) (r .job))
+      ((first : ℕ) (rs : List Request) (k : Kind) (r q : Request) → want (r .kind) ≡ a-step k → T (has (stepped (history-of first rs)) (r .job))
       → a .answer (a .next (left a (a .fresh first) rs) r) q ≡ a .answer (left a (a .fresh first) rs) q) → ⊥
   unfolding computed
   later-steps-count for-show =

@@ -37,7 +37,11 @@ fn put_answer(code: u32, place: usize, order: &[u32], out: &mut [u8]) -> usize
     }
     let at = plain::put_refused(code, place as u64, out, 0);
     match code {
-        17 => text::put_text(b"no order keeps every conflicting pair\n", out, at),
+        17 => text::put_text(
+            b"no order keeps every conflicting pair and puts each job before those opened after its end\n",
+            out,
+            at,
+        ),
         18 => plain::put_counted(
             b"the log has ",
             place as u64,
@@ -62,7 +66,8 @@ fn run(log: &mut [u8], order: &mut [u32], out: &mut [u8]) {
 fn usage() {
     plain::show(
         b"usage: lister LOG\n\
-        Lists the kept jobs of a log in an order that keeps every conflicting pair, the lowest number first where there is a choice.\n\
+        Lists the kept jobs of a log in an order that keeps every conflicting pair and puts each job before those opened after its end,\n\
+        the lowest number first where there is a choice.\n\
         LOG: records of 8 bytes, at most 4096, and at most 512 opens. A record is the kind (1 open, 2 read, 3 write, 4 end, 5 abandon),\n\
         a byte 0, the cell (2 bytes, 0 to 255, and 0 where no cell is meant) and the job (4 bytes; of an open, the number issued).\n\
         Numbers stand low byte first. A job is kept unless the log abandons it.\n\

@@ -8,7 +8,7 @@ ghost use Rattle.history.specs.Events.{History, kept};
 ghost use Rattle.verdicts.specs.Verdicts.{list-order};
 ghost use Rattle.tallies.specs.Jobs.{Jobs, Blank, Taken};
 ghost use Rattle.tallies.specs.Places.{Lists};
-ghost use Rattle.tallies.specs.Marks.{mark, Put, Struck, Joined, LowestMark, Common, Preceded, KeptMarks, Settled, Only, In-word, Sorted};
+ghost use Rattle.tallies.specs.Marks.{mark, Put, Struck, Joined, Gained, LowestMark, Common, Preceded, KeptMarks, Settled, Only, In-word, Sorted};
 ghost use Rattle.lists.specs.Answers.{answered};
 use checks::Kept;
 use checks::Read;
@@ -32,8 +32,8 @@ fn strike_mark(words: &mut [u64], at: usize)
 }
 
 // A row of `words` gains what a row of `others` has.
-fn join(words: &mut [u64; 4096], row: usize, others: &[u64; 2048], other: usize)
-    requires { ⌜ (row < 512) × (other < 256) ⌝ }
+fn join(words: &mut [u64; 4096], row: usize, others: &[u64; 4112], other: usize)
+    requires { ⌜ (row < 512) × (other < 514) ⌝ }
     ensures { λ _. ⌜ Joined row other (now (others .entry)) (now (words .entry)) (now (words .exit)) ⌝ }
 {
     let all = &mut words[..];
@@ -63,7 +63,7 @@ fn lowest_mark(words: &[u64; 8]) -> usize
     512
 }
 
-// A mark that the row of `rows` and the set have both, or 512.
+// The highest mark that the row of `rows` and the set have both, or 512: the job that is placed last of those waited for, mostly, as the lowest go first.
 fn common_mark(rows: &[u64; 4096], row: usize, words: &[u64; 8]) -> usize
     requires { ⌜ row < 512 ⌝ }
     ensures { λ r. ⌜ (r ≤ 512) × Common (now (rows .entry)) row (now (words .entry)) r ⌝ }
@@ -76,13 +76,33 @@ fn common_mark(rows: &[u64; 4096], row: usize, words: &[u64; 8]) -> usize
         w -= 1;
         let both = theirs[from + w] & all[w];
         if both != 0 {
-            return w * 64 + u64::trailing_zeros(both) as usize;
+            return w * 64 + (63 - u64::leading_zeros(both) as usize);
         }
     }
     512
 }
 
 // ---- who precedes whom
+
+// A job gains what the rows have that a step at this row looks at.
+fn join_before(preds: &mut [u64; 4096], job: usize, seen: &[u64; 4112], row: usize)
+    requires { ⌜ (job < 512) × (row < 514) ⌝ }
+    ensures { λ _. ⌜ Gained job row (now (seen .entry)) (now (preds .entry)) (now (preds .exit)) ⌝ }
+{
+    if row < 256 {
+        join(preds, job, seen, row + 256);
+        return;
+    }
+    if row < 512 {
+        join(preds, job, seen, row - 256);
+        join(preds, job, seen, row);
+        return;
+    }
+    if row != 512 {
+        return;
+    }
+    join(preds, job, seen, 513);
+}
 
 // The predecessors of each job, from the first n records.
 fn gather(told: &[u32; 4096], n: usize, states: &[u8; 512], preds: &mut [u64; 4096])
@@ -91,22 +111,16 @@ fn gather(told: &[u32; 4096], n: usize, states: &[u8; 512], preds: &mut [u64; 40
 {
     let steps = &told[..];
     let stand = &states[..];
-    let mut readers: [u64; 2048] = [0; 2048];
-    let mut writers: [u64; 2048] = [0; 2048];
+    let mut seen: [u64; 4112] = [0; 4112];
     let mut i: usize = 0;
     while i < n {
         let step = steps[i];
         if step != 0 {
-            let job = ((step - 1) / 512 % 512) as usize;
-            let cell = ((step - 1) % 256) as usize;
+            let job = ((step - 1) / 514 % 512) as usize;
+            let row = ((step - 1) % 514) as usize;
             if stand[job] != 4 {
-                join(preds, job, &writers, cell);
-                if (step - 1) / 256 % 2 == 1 {
-                    join(preds, job, &readers, cell);
-                    put_mark(&mut writers, cell * 512 + job);
-                } else {
-                    put_mark(&mut readers, cell * 512 + job);
-                }
+                join_before(preds, job, &seen, row);
+                put_mark(&mut seen, row * 512 + job);
                 strike_mark(preds, job * 512 + job);
             }
         }

@@ -16,7 +16,7 @@ use native.Mathlib.Numerals.{add-one, one-add}
 use native.Mathlib.Omega.{arith}
 use lib.Arith.{lt-one, digits-div, digits-mod}
 use lib.Bits.{bitOr, bitAnd, or-step, and-step, or-shifted-r, and-self, and-block, and-le-l, and-le-r}
-use lib.Count.{ones, ones-step, under, trailingZeros}
+use lib.Count.{ones, ones-step, under, leadingZeros, trailingZeros, leading-top}
 use lib.Dec.{T, lit<, eqb, eqb·zero-suc, eqb·suc-zero, eqb·suc-suc, eqb-refl}
 use lib.ListN.{length, getD}
 use lib.Pow.{pow-pos, pow-lt, shl-exact}
@@ -429,6 +429,31 @@ at-even w h t ne a = (suc-le-suc (a .0), subst T (sym (bit-high h false t refl))
 
 pub lowest-mark : (w n : ℕ) → n < 2 ^ w → (n ≡ 0 → ⊥) → Lowest w n
 lowest-mark w n h ne = let a = by-lowest At at-odd at-even w n h ne in record { inside = a .0; there = a .1; none-lower = a .2 }
+
+-- and its leading zeros tell the place of its highest one
+pub record Highest (w n : ℕ) : Type 0 where
+  pub inside : leadingZeros w n < w
+  pub there : T (bit n (w - 1 - leadingZeros w n))
+
+positive : (n : ℕ) → (n ≡ 0 → ⊥) → 0 < n
+positive zero ne = absurd (ne refl)
+positive (suc n) ne = zero-lt-suc n
+
+pub highest-mark : (w n : ℕ) → n < 2 ^ w → (n ≡ 0 → ⊥) → Highest w n
+unfolding bit
+highest-mark w n h ne =
+    let t = leading-top w n (positive n ne) h in
+    let j = t .0 in
+    let s : leadingZeros w n + suc j ≡ w = t .1 in
+    let low : 2 ^ j ≤ n = t .2 in
+    let high : n < 2 ^ suc j = t .3 in
+    let p : 2 ^ suc j ≡ 2 ^ j * 2 = pow-suc 2 j in
+    let whole : n ≡ 1 * 2 ^ j + (n - 2 ^ j) = omega arith in
+    let one : n / 2 ^ j ≡ 1 = ap (λ (x : ℕ). x / 2 ^ j) whole ∙ digits-div 1 (omega arith) in
+    record {
+      inside = omega arith;
+      there = subst (λ (k : ℕ). T (eqb (n / 2 ^ k % 2) 1)) (let e : j ≡ w - 1 - leadingZeros w n = omega arith in e) (true-is (ap (λ (x : ℕ). eqb (x % 2) 1) one));
+    }
 
 -- so a number that is not 0 has a mark
 pub nonzero-bit : (w n : ℕ) → n < 2 ^ w → (n ≡ 0 → ⊥) → (k : ℕ) × (k < w) × T (bit n k)

@@ -114,18 +114,19 @@ const MARK: u64 = 256;
 
 const ALL: u64 = 0xffff_ffff_ffff_ffff;
 
-// Do two records conflict: steps of different jobs on one cell, at least one a write? Of the kinds 0 to 5, the steps are 2 and 3. The earlier one is to have the
-// mark, if one is given.
-fn conflict(a: u64, b: u64, mark: u64) -> bool {
-    let other = a ^ b;
-    let steps = a & b & 2 != 0;
-    let write = (a | b) & 1 != 0;
+// Do an earlier record and a later one of another job conflict: steps on one cell, at least one a write, or an end and an open? Of the kinds 0 to 5, the steps are 2
+// and 3. The earlier one is to have the mark, if one is given.
+fn conflict(earlier: u64, later: u64, mark: u64) -> bool {
+    let other = earlier ^ later;
+    let steps = earlier & later & 2 != 0;
+    let write = (earlier | later) & 1 != 0;
     let meet = other & 0xffff_0000 == 0;
+    let in_time = (earlier % 256 == 4) & (later % 256 == 1);
     let apart = 4294967296 <= other;
-    steps & write & meet & apart & (a & mark == mark)
+    ((steps & write & meet) | in_time) & apart & (earlier & mark == mark)
 }
 
-// Is one of the first n records in conflict with a later one?
+// Is one of the first n records in conflict with one after them?
 fn meets(w: &List, n: usize, later: u64, mark: u64) -> bool {
     let mut a: usize = 0;
     while a < n {
@@ -1036,7 +1037,7 @@ recount: # differ
 }
 
 fn main() {
-    let mut space = io::large_buffer();
+    let mut space = [0u8; 131072];
     let count = io::read_full(libc::STDIN_FILENO, &mut space);
     let mut h = [0u64; 4608];
     try_text(&mut h, &space[..count]);

@@ -32,16 +32,20 @@ pub record SameAnyway (bytes lent order : List ℕ) (h : History) : Type 1 where
   pub ends : (c : ℕ) → last-write c (kept-steps h) ≡ last-write c (layout (kept-steps h) order)
   pub whatever : (X : Type 0) (f : Program X) (g : ℕ → X) → AsTheLog X f g h order
 
--- by whether the cell is 5 and whether it is 6
+-- by whether the cell is 5, whether it is 6, and whether it is 0, with which the openings stand
 blind-ends : (c : ℕ) → last-write c (kept-steps blind) ≡ last-write c (layout (kept-steps blind) one-after-the-other)
 unfolding checked writes
-blind-ends c = go (eqb 5 c) (eqb 6 c) refl refl
+blind-ends c = go (eqb 5 c) (eqb 6 c) (eqb 0 c) refl refl refl
   where
-    go : (a b : Bool) → eqb 5 c ≡ a → eqb 6 c ≡ b → last-write c (kept-steps blind) ≡ last-write c (layout (kept-steps blind) one-after-the-other)
-    go true true p q = rw (p, q)
-    go true false p q = rw (p, q)
-    go false true p q = rw (p, q)
-    go false false p q = rw (p, q)
+    go : (a b z : Bool) → eqb 5 c ≡ a → eqb 6 c ≡ b → eqb 0 c ≡ z → last-write c (kept-steps blind) ≡ last-write c (layout (kept-steps blind) one-after-the-other)
+    go true true true p q r = rw (p, q, r)
+    go true true false p q r = rw (p, q, r)
+    go true false true p q r = rw (p, q, r)
+    go true false false p q r = rw (p, q, r)
+    go false true true p q r = rw (p, q, r)
+    go false true false p q r = rw (p, q, r)
+    go false false true p q r = rw (p, q, r)
+    go false false false p q r = rw (p, q, r)
 
 blind-run : (X : Type 0) (f : Program X) (g : ℕ → X) → AsTheLog X f g blind one-after-the-other
 unfolding checked put act-as

@@ -79,7 +79,7 @@ seen-by-lister = seen-by (λ b l. list-order b l .code) (λ b l. list-order b l 
 -- an accepted order of two jobs, of three; 12, 13, 15 and 16
 abbrev pub verdict-table : List Two
 verdict-table =
-    record { code = 0; bytes = log-after p1; list = 1 ∷ 2 ∷ []; place = 2; bytes′ = log-after p3; list′ = 3 ∷ 2 ∷ 1 ∷ []; place′ = 3 }
+    record { code = 0; bytes = log-after p1; list = 1 ∷ 2 ∷ []; place = 2; bytes′ = log-after p3; list′ = 2 ∷ 1 ∷ 3 ∷ []; place′ = 3 }
     ∷ record { code = 12; bytes = log (raw 0 0 0 1 ∷ []); list = []; place = 0; bytes′ = log (opens 1 ∷ raw 0 0 0 1 ∷ []); list′ = 1 ∷ []; place′ = 1 }
     ∷ record { code = 13; bytes = log (reads 1 5 ∷ []); list = []; place = 0; bytes′ = log (opens 1 ∷ reads 2 5 ∷ []); list′ = 1 ∷ []; place′ = 1 }
     ∷ record { code = 15; bytes = log-after p1; list = 3 ∷ []; place = 0; bytes′ = log-after p1; list′ = 1 ∷ 1 ∷ []; place′ = 1 }

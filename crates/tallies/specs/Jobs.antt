@@ -1,15 +1,16 @@
 -- What the reading of a log leaves: the table of its jobs, and its steps as numbers.
 --
--- The table has a job's number and how it stands, in the order in which the jobs were opened. A record that is a step is told as one number, which has
--- the place of its job in the table, its kind and its cell; any other record as 0.
+-- The table has a job's number and how it stands, in the order in which the jobs were opened. An open, a read, a write or an end is told as one number, which has
+-- the place of its job in the table and a row for what was done on which cell; an abandon as 0.
 -- Assumes nothing.
 use mathlib.Core.Path.{_≡_}
 use mathlib.Core.Logic.{_⊎_}
-use mathlib.Core.Bool.{cond}
+use mathlib.Core.Bool.{Bool, _&&_, _||_, cond}
 use mathlib.Core.List.{List, [], _∷_, _++_}
-use Prim.Native.Nat.{ℕ, zero, suc, _+_, _*_, _≤_, _<_}
+use Prim.Native.Nat.{ℕ, zero, suc, _+_, _-_, _*_, _≤_, _<_}
+use lib.Dec.{ltb, eqb}
 use lib.ListN.{length, getD}
-use Rattle.history.specs.Events.{Kind, alters, Event, opens, steps, ends, abandons, History, has, opened, ended, abandoned, wrote}
+use Rattle.history.specs.Events.{read, write, Deed, does, opening, ending, Event, opens, steps, ends, abandons, History, has, opened, ended, abandoned, wrote}
 use Rattle.history.specs.Replies.{Request, want, event-of}
 use Rattle.history.specs.Turns.{Turns}
 use Rattle.verdicts.specs.Logs.{most-jobs, fault-of}
@@ -49,15 +50,37 @@ Blank l = (i : ℕ) → getD l i 0 ≡ 0
 
 -- ---- steps as numbers
 
+-- how many cells there are for a deed: openings and ends all stand with cell 0
+abbrev pub room : Deed → ℕ
+room (does k) = 256
+room opening = 1
+room ending = 1
+
+-- the row of a deed on a cell, of 514
+abbrev pub row-of : Deed → ℕ → ℕ
+row-of (does read) c = c
+row-of (does write) c = c + 256
+row-of opening c = c + 512
+row-of ending c = c + 513
+
+-- what a later step at a row looks at, among what the rows have: the read of a cell at its writes, the write of a cell at its reads and writes, an opening at the
+-- ends, an end at nothing. That these are the rows of what it clashes with is `looked-test` of RowLaws
+unfoldable pub looked : (ℕ → Bool) → ℕ → Bool
+looked g row = cond (ltb row 256) (g (row + 256)) (cond (ltb row 512) (g (row - 256) || g row) (eqb row 512 && g 513))
+
 -- a step of the job at place i of the table
-abbrev pub packed-step : ℕ → Kind → ℕ → ℕ
-packed-step i k c = 1 + (i * 512 + (cond (alters k) 256 0 + c))
+abbrev pub packed-step : ℕ → Deed → ℕ → ℕ
+packed-step i d c = i * 514 + row-of d c + 1
+
+-- x tells that job j has done d on cell c
+abbrev pub Packs : List ℕ → Deed → ℕ → ℕ → ℕ → Type 0
+Packs jobs d j c x = (i : ℕ) × (i < length jobs) × (getD jobs i 0 ≡ j) × (c < room d) × (x ≡ packed-step i d c)
 
 -- x tells of the event
 abbrev pub Tells : List ℕ → Event → ℕ → Type 0
-Tells jobs (opens j) x = x ≡ 0
-Tells jobs (steps k j c) x = (i : ℕ) × (i < length jobs) × (getD jobs i 0 ≡ j) × (c < 256) × (x ≡ packed-step i k c)
-Tells jobs (ends j) x = x ≡ 0
+Tells jobs (opens j) x = Packs jobs opening j 0 x
+Tells jobs (steps k j c) x = Packs jobs (does k) j c x
+Tells jobs (ends j) x = Packs jobs ending j 0 x
 Tells jobs (abandons j) x = x ≡ 0
 
 -- the numbers from place n on tell of the events h

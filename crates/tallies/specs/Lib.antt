@@ -9,6 +9,7 @@ pub mod TakeLaws
 pub mod OneTable
 pub mod PlaceLaws
 pub mod CountLaws
+pub mod RowLaws
 pub mod PassLaws
 pub mod TurnedLaws
 pub mod MarkLaws

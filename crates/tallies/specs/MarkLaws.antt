@@ -11,14 +11,14 @@ use native.Mathlib.Numerals.{add-one}
 use native.Mathlib.Omega.{arith}
 use borrow.Author.Tests.{le-ltb}
 use lib.Bits.{bitOr, bitAnd, and-le-l}
-use lib.Count.{trailingZeros}
+use lib.Count.{leadingZeros, trailingZeros}
 use lib.Dec.{T, lit<, eqb, ltb}
 use lib.ListN.{length, getD, take, drop, set, length-set, length-append}
 use lib.Seq.{take-suc, getD-set-same, getD-set-other, paste-suc}
 use Rattle.graph.specs.Decide.{is-true, true-is, own-test, eq-test, lt-test, and-test, or-test, same-test, answer, test-true, test-false}
 use Rattle.graph.specs.Lists.{only, only-append}
 use Rattle.marks.specs.Marks.{bit}
-use Rattle.marks.specs.MarkLaws.{bit-nonzero, bit-or, both-test, Lowest, lowest-mark, shl-one, and-others}
+use Rattle.marks.specs.MarkLaws.{bit-nonzero, bit-or, both-test, Lowest, lowest-mark, Highest, highest-mark, shl-one, and-others}
 use Rattle.marks.specs.Words.{marked, with-mark}
 use Rattle.marks.specs.WordLaws.{marked-at, marked-none, marked-with, marked-without}
 use Rattle.tallies.specs.Marks.{mark, in-row, Put, Struck, Joined, LowestMark, Common}
@@ -138,8 +138,8 @@ lowest-none words blank = inr (refl, λ i q. marked-none 64 words i (blank (i / 
 -- ---- a mark that a row and a set have both
 
 pub common-found : (rows : List ℕ) (r : ℕ) (words : List ℕ) (w : ℕ) → w < 8 → getD rows (r * 8 + w) 0 < 2 ^ 64 → (bitAnd (getD rows (r * 8 + w) 0) (getD words w 0) ≡ 0 → ⊥)
-    → (w * 64 + trailingZeros 64 (bitAnd (getD rows (r * 8 + w) 0) (getD words w 0)) ≤ 512)
-    × Common rows r words (w * 64 + trailingZeros 64 (bitAnd (getD rows (r * 8 + w) 0) (getD words w 0)))
+    → (w * 64 + (63 - leadingZeros 64 (bitAnd (getD rows (r * 8 + w) 0) (getD words w 0))) ≤ 512)
+    × Common rows r words (w * 64 + (63 - leadingZeros 64 (bitAnd (getD rows (r * 8 + w) 0) (getD words w 0))))
 common-found rows r words w h fits ne =
     (omega (arith, inside), inl (omega (arith, inside), word-mark words w t inside ∙ is-true (there .1), row-word rows r w t inside ∙ is-true (there .0)))
   where
@@ -149,17 +149,17 @@ common-found rows r words w h fits ne =
     two : ℕ
     two = getD words w 0
 
-    low : Lowest 64 (bitAnd one two)
-    low = lowest-mark 64 (bitAnd one two) (lt-of-le-of-lt (and-le-l one two) fits) ne
+    high : Highest 64 (bitAnd one two)
+    high = highest-mark 64 (bitAnd one two) (lt-of-le-of-lt (and-le-l one two) fits) ne
 
     t : ℕ
-    t = trailingZeros 64 (bitAnd one two)
+    t = 63 - leadingZeros 64 (bitAnd one two)
 
     inside : t < 64
-    inside = low .inside
+    inside = omega arith
 
     there : T (bit one t) × T (bit two t)
-    there = both-test one two t .holds (low .there)
+    there = both-test one two t .holds (high .there)
 
 pub common-none : (rows : List ℕ) (r : ℕ) (words : List ℕ) → ((k : ℕ) → k < 8 → bitAnd (getD rows (r * 8 + k) 0) (getD words k 0) ≡ 0) → Common rows r words 512
 common-none rows r words blank = inr (refl, λ i q e. row-mark rows r i ∙ test-false (own-test (bit (getD rows (r * 8 + i / 64) 0) (i % 64))) (none i q e))

@@ -13,6 +13,7 @@ use lib.ListN.{getD}
 use Rattle.marks.specs.Marks.{bit}
 use Rattle.marks.specs.Words.{marked}
 use Rattle.history.specs.Events.{History, opened, kept-steps, precedes, abandoned, has}
+use Rattle.tallies.specs.Jobs.{looked}
 
 -- mark i of a set of jobs
 abbrev pub mark : List ℕ → ℕ → Bool
@@ -32,6 +33,10 @@ Struck x words words′ = (y : ℕ) → mark words′ y ≡ (mark words y && not
 -- row r gains what row q of another table has; the other rows stay
 abbrev pub Joined : ℕ → ℕ → List ℕ → List ℕ → List ℕ → Type 0
 Joined r q others words words′ = (j i : ℕ) → i < 512 → in-row words′ j i ≡ (in-row words j i || (eqb j r && in-row others q i))
+
+-- row r gains what the rows have that a step at row q looks at; the other rows stay
+abbrev pub Gained : ℕ → ℕ → List ℕ → List ℕ → List ℕ → Type 0
+Gained r q others words words′ = (j i : ℕ) → i < 512 → in-row words′ j i ≡ (in-row words j i || (eqb j r && looked (λ x. in-row others x i) q))
 
 -- the lowest mark, or 512 where there is none
 abbrev pub LowestMark : List ℕ → ℕ → Type 0

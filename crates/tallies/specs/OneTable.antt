@@ -7,24 +7,27 @@ use Prim.Native.Nat.{ℕ, suc, _+_, _≤_, _<_}
 use native.Mathlib.Nat.{eq-or-lt-of-le}
 use native.Mathlib.Omega.{arith}
 use lib.ListN.{length, getD}
-use Rattle.history.specs.Events.{Event, opens, steps, ends, abandons, History, opened}
+use Rattle.history.specs.Events.{Deed, does, opening, ending, Event, opens, steps, ends, abandons, History, opened}
 use Rattle.verdicts.specs.Logs.{most-jobs}
-use Rattle.tallies.specs.Jobs.{Padded, Jobs, packed-step, Tells, Told, Taken}
+use Rattle.tallies.specs.Jobs.{Padded, Jobs, packed-step, Packs, Tells, Told, Taken}
 use Rattle.tallies.specs.PadLaws.{padded-one}
 use Rattle.tallies.specs.TableLaws.{same-entry}
 
 module _ {h : History} {numbers states : List ℕ} {count : ℕ} (jobs : Jobs h numbers states count) where
   -- a step has one job, and a job one place in the table
-  tells-one : (e : Event) (x y : ℕ) → Tells (opened h) e x → Tells (opened h) e y → x ≡ y
-  tells-one (opens j) x y p q = p ∙ sym q
-  tells-one (steps k j c) x y p q =
+  packs-one : (d : Deed) (j c x y : ℕ) → Packs (opened h) d j c x → Packs (opened h) d j c y → x ≡ y
+  packs-one d j c x y p q =
       let m = jobs .many in
       let a : p .0 < count = (let l = p .1 in omega arith) in
       let b : q .0 < count = (let l = q .1 in omega arith) in
       p .4
-      ∙ ap (λ (i : ℕ). packed-step i k c) (same-entry jobs (p .0) (q .0) a b (jobs .named (p .0) a ∙ p .2 ∙ sym (q .2) ∙ sym (jobs .named (q .0) b)))
+      ∙ ap (λ (i : ℕ). packed-step i d c) (same-entry jobs (p .0) (q .0) a b (jobs .named (p .0) a ∙ p .2 ∙ sym (q .2) ∙ sym (jobs .named (q .0) b)))
       ∙ sym (q .4)
-  tells-one (ends j) x y p q = p ∙ sym q
+
+  tells-one : (e : Event) (x y : ℕ) → Tells (opened h) e x → Tells (opened h) e y → x ≡ y
+  tells-one (opens j) x y p q = packs-one opening j 0 x y p q
+  tells-one (steps k j c) x y p q = packs-one (does k) j c x y p q
+  tells-one (ends j) x y p q = packs-one ending j 0 x y p q
   tells-one (abandons j) x y p q = p ∙ sym q
 
   told-one : (told then : List ℕ) (n : ℕ) (g : History) → Told (opened h) told n g → Told (opened h) then n g → (i : ℕ) → n ≤ i → i < n + length g → getD told i 0 ≡ getD then i 0

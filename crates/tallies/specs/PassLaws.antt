@@ -1,6 +1,6 @@
 -- One pass over the told steps, record by record, from the first to the last.
 --
--- First what the record at i tells, as the code takes it apart: the place of its job in the table, its cell and its kind. Then where a pass stands (`Pass`): so many
+-- First what the record at i tells, as the code takes it apart: the place of its job in the table, and its row. Then where a pass stands (`Pass`): so many
 -- records are passed, and S holds of the kept steps so far and of those that are left. A record that is no step, or a step of an abandoned job, leaves it so
 -- (`pass-none`, `pass-gone`); a step of a kept job is met (`Meets`), and the pass goes on with what holds after it (`pass-on`). At the end S holds of all (`pass-all`).
 -- Assumes nothing.
@@ -10,64 +10,42 @@ use mathlib.Core.List.{List, [], _∷_, _++_, append-nil, append-assoc}
 use Prim.Native.Nat.{ℕ, suc, _+_, _-_, _/_, _%_, _≤_, _<_}
 use native.Mathlib.Numerals.{add-one}
 use native.Mathlib.Omega.{arith}
-use lib.Dec.{T}
 use lib.ListN.{length, getD}
 use Rattle.graph.specs.Decide.{not-test, test-true, test-false}
 use Rattle.graph.specs.Lists.{_∈_, only, only-yes, only-no}
-use Rattle.history.specs.Events.{Kind, read, write, alters, Event, opens, steps, ends, abandons, History, has, opened, abandoned, Step, step-by, steps-from, all-steps, kept-steps}
-use Rattle.history.specs.Memory.{same-kind}
+use Rattle.history.specs.Events.{Deed, does, opening, ending, Event, opens, steps, ends, abandons, History, has, opened, abandoned, Step, step-at, step-by, steps-from, all-steps, kept-steps}
 use Rattle.history.specs.TurnLaws.{has-test}
-use Rattle.tallies.specs.Jobs.{status, packed-step, Told, Taken}
+use Rattle.tallies.specs.Jobs.{status, room, row-of, packed-step, Packs, Told, Taken}
+use Rattle.tallies.specs.RowLaws.{row-small}
 use Rattle.tallies.specs.TableLaws.{status-gone}
 
 -- ---- what the record at i tells
 
 abbrev pub slot-at : List ℕ → ℕ → ℕ
-slot-at told i = (getD told i 0 - 1) / 512 % 512
+slot-at told i = (getD told i 0 - 1) / 514 % 512
 
-abbrev pub cell-at : List ℕ → ℕ → ℕ
-cell-at told i = (getD told i 0 - 1) % 256
-
-abbrev pub mark-at : List ℕ → ℕ → ℕ
-mark-at told i = (getD told i 0 - 1) / 256 % 2
-
--- a step's kind as a number
-abbrev pub kind-mark : Kind → ℕ
-kind-mark read = 0
-kind-mark write = 1
-
-pub kind-writes : (k : Kind) → kind-mark k ≡ 1 → T (alters k) × T (same-kind k write) × (T (same-kind k read) → ⊥)
-unfolding same-kind
-kind-writes read e = absurd (let z : _≡_ {A = ℕ} 0 1 = e in omega arith)
-kind-writes write e = (tt, tt, λ t. t)
-
-pub kind-reads : (k : Kind) → (kind-mark k ≡ 1 → ⊥) → (T (alters k) → ⊥) × T (same-kind k read) × (T (same-kind k write) → ⊥)
-unfolding same-kind
-kind-reads read f = (λ t. t, tt, λ t. t)
-kind-reads write f = absurd (f refl)
+abbrev pub row-at : List ℕ → ℕ → ℕ
+row-at told i = (getD told i 0 - 1) % 514
 
 -- a step that is packed is taken apart again
-record Apart (x i : ℕ) (k : Kind) (c : ℕ) : Type 0 where
-  slot : (x - 1) / 512 % 512 ≡ i
-  cell : (x - 1) % 256 ≡ c
-  kind : (x - 1) / 256 % 2 ≡ kind-mark k
+record Apart (x i : ℕ) (d : Deed) (c : ℕ) : Type 0 where
+  slot : (x - 1) / 514 % 512 ≡ i
+  row : (x - 1) % 514 ≡ row-of d c
   told : x ≡ 0 → ⊥
 
-apart : (x i : ℕ) (k : Kind) (c : ℕ) → x ≡ packed-step i k c → i < 512 → c < 256 → Apart x i k c
-apart x i read c e p q = record { slot = omega arith; cell = omega arith; kind = omega arith; told = λ z. omega arith }
-apart x i write c e p q = record { slot = omega arith; cell = omega arith; kind = omega arith; told = λ z. omega arith }
+apart : (x i : ℕ) (d : Deed) (c : ℕ) → x ≡ packed-step i d c → i < 512 → c < room d → Apart x i d c
+apart x i d c e p q = let l = row-small d c q in record { slot = omega arith; row = omega arith; told = λ z. omega arith }
 
 -- the record at i, which is told
 data Record (jobs told : List ℕ) (i : ℕ) : History → Type 0 where
   no-step : {e : Event} {rest : History} → step-by i e ≡ [] → getD told i 0 ≡ 0 → Told jobs told (suc i) rest → Record jobs told i (e ∷ rest)
-  a-step : {k : Kind} {slot j c : ℕ} {rest : History} → slot < length jobs → getD jobs slot 0 ≡ j → c < 256 → getD told i 0 ≡ packed-step slot k c → Told jobs told (suc i) rest
-      → Record jobs told i (steps k j c ∷ rest)
+  a-step : {e : Event} {rest : History} (d : Deed) (j c : ℕ) → step-by i e ≡ step-at i d j c ∷ [] → Packs jobs d j c (getD told i 0) → Told jobs told (suc i) rest → Record jobs told i (e ∷ rest)
 
 at-record : (jobs told : List ℕ) (i n : ℕ) (g : History) → i + length g ≡ n → i < n → Told jobs told i g → Record jobs told i g
 at-record jobs told i n [] e q t = absurd (omega arith)
-at-record jobs told i n (opens j ∷ g) e q t = no-step refl (t .0) (t .1)
-at-record jobs told i n (steps k j c ∷ g) e q t = a-step (t .0 .1) (t .0 .2) (t .0 .3) (t .0 .4) (t .1)
-at-record jobs told i n (ends j ∷ g) e q t = no-step refl (t .0) (t .1)
+at-record jobs told i n (opens j ∷ g) e q t = a-step opening j 0 refl (t .0) (t .1)
+at-record jobs told i n (steps k j c ∷ g) e q t = a-step (does k) j c refl (t .0) (t .1)
+at-record jobs told i n (ends j ∷ g) e q t = a-step ending j 0 refl (t .0) (t .1)
 at-record jobs told i n (abandons j ∷ g) e q t = no-step refl (t .0) (t .1)
 
 -- ---- where a pass stands
@@ -99,9 +77,8 @@ pub record Meets (h : History) (n : ℕ) (told : List ℕ) (i : ℕ) (S : List S
   pub stays : b .job ∈ abandoned h → ⊥
   pub known : slot-at told i < length (opened h)
   pub mine : getD (opened h) (slot-at told i) 0 ≡ b .job
-  pub cell : cell-at told i ≡ b .cell
-  pub real : b .cell < 256
-  pub kind : mark-at told i ≡ kind-mark (b .kind)
+  pub row : row-at told i ≡ row-of (b .deed) (b .cell)
+  pub real : b .cell < room (b .deed)
 
 one-on : {h : History} {n : ℕ} {told : List ℕ} (i : ℕ) {S : List Step → List Step → Type 0} → Pass h n told (suc i) S → Pass h n told (i + 1) S
 one-on {h} {n} {told} i {S} p = subst (λ (k : ℕ). Pass h n told k S) (sym (add-one i)) p
@@ -140,28 +117,28 @@ module _ {h : History} {n : ℕ} {numbers states told : List ℕ} {count : ℕ} 
       none-go : {rest : History} {done : List Step} → At h n told i rest done → S done (keeps h (steps-from i rest)) → Record (opened h) told i rest → getD told i 0 ≡ 0
           → Pass h n told (suc i) S
       none-go a x (no-step {rest = rest} f z t) y = skip rest a x t (ap (λ (l : List Step). keeps h (l ++ steps-from (suc i) rest)) f)
-      none-go a x (a-step {k = k} {slot = slot} {c = c} q e r p t) y = absurd (apart (getD told i 0) slot k c p (slot-few q) r .told y)
+      none-go a x (a-step d j c f p t) y = absurd (apart (getD told i 0) (p .0) d c (p .4) (slot-few (p .1)) (p .3) .told y)
 
       gone-go : {rest : History} {done : List Step} → At h n told i rest done → S done (keeps h (steps-from i rest)) → Record (opened h) told i rest → (getD told i 0 ≡ 0 → ⊥)
           → getD states (slot-at told i) 0 ≡ 4 → Pass h n told (suc i) S
       gone-go a x (no-step f z t) y g = absurd (y z)
-      gone-go a x (a-step {k = k} {slot = slot} {j = j} {c = c} {rest = rest} q e r p t) y g =
-          let z = apart (getD told i 0) slot k c p (slot-few q) r in
-          let gone : j ∈ abandoned h = status-gone h j .0 (sym (slot-state q e) ∙ ap (λ (m : ℕ). getD states m 0) (sym (z .slot)) ∙ g) in
+      gone-go a x (a-step {rest = rest} d j c f p t) y g =
+          let z = apart (getD told i 0) (p .0) d c (p .4) (slot-few (p .1)) (p .3) in
+          let gone : j ∈ abandoned h = status-gone h j .0 (sym (slot-state (p .1) (p .2)) ∙ ap (λ (m : ℕ). getD states m 0) (sym (z .slot)) ∙ g) in
           skip rest a x t
-          (only-no (λ v. not (has (abandoned h) (v .job))) (record { at = i; kind = k; job = j; cell = c }) (steps-from (suc i) rest)
-          (test-false (not-test (has-test (abandoned h) j)) (λ f. f gone)))
+          (ap (λ (l : List Step). keeps h (l ++ steps-from (suc i) rest)) f
+          ∙ only-no (λ v. not (has (abandoned h) (v .job))) (step-at i d j c) (steps-from (suc i) rest) (test-false (not-test (has-test (abandoned h) j)) (λ f. f gone)))
 
       meets-go : {rest : History} {done : List Step} → At h n told i rest done → S done (keeps h (steps-from i rest)) → Record (opened h) told i rest → i < n → (getD told i 0 ≡ 0 → ⊥)
           → (getD states (slot-at told i) 0 ≡ 4 → ⊥) → Meets h n told i S
       meets-go a x (no-step f z t) o y g = absurd (y z)
-      meets-go {done = done} a x (a-step {k = k} {slot = slot} {j = j} {c = c} {rest = rest} q e r p t) o y g =
-          let z = apart (getD told i 0) slot k c p (slot-few q) r in
-          let b : Step = record { at = i; kind = k; job = j; cell = c } in
+      meets-go {done = done} a x (a-step {rest = rest} d j c f p t) o y g =
+          let z = apart (getD told i 0) (p .0) d c (p .4) (slot-few (p .1)) (p .3) in
+          let b : Step = step-at i d j c in
           let later = keeps h (steps-from (suc i) rest) in
-          let stays : j ∈ abandoned h → ⊥ = λ m. g (ap (λ (m : ℕ). getD states m 0) (z .slot) ∙ slot-state q e ∙ status-gone h j .1 m) in
-          let kept : keeps h (b ∷ steps-from (suc i) rest) ≡ b ∷ later =
-          only-yes (λ v. not (has (abandoned h) (v .job))) b (steps-from (suc i) rest) (test-true (not-test (has-test (abandoned h) j)) stays) in
+          let stays : j ∈ abandoned h → ⊥ = λ m. g (ap (λ (m : ℕ). getD states m 0) (z .slot) ∙ slot-state (p .1) (p .2) ∙ status-gone h j .1 m) in
+          let kept = ap (λ (l : List Step). keeps h (l ++ steps-from (suc i) rest)) f
+          ∙ only-yes (λ v. not (has (abandoned h) (v .job))) b (steps-from (suc i) rest) (test-true (not-test (has-test (abandoned h) j)) stays) in
           record {
             b = b;
             rest = rest;
@@ -173,11 +150,10 @@ module _ {h : History} {n : ℕ} {numbers states told : List ℕ} {count : ℕ} 
             inside = o;
             at = refl;
             stays = stays;
-            known = subst (λ (m : ℕ). m < length (opened h)) (sym (z .slot)) q;
-            mine = ap (λ (m : ℕ). getD (opened h) m 0) (z .slot) ∙ e;
-            cell = z .cell;
-            real = r;
-            kind = z .kind;
+            known = subst (λ (m : ℕ). m < length (opened h)) (sym (z .slot)) (p .1);
+            mine = ap (λ (m : ℕ). getD (opened h) m 0) (z .slot) ∙ p .2;
+            row = z .row;
+            real = p .3;
           }
 
       -- no step; a step of an abandoned job; a step of a kept job

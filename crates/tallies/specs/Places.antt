@@ -1,19 +1,20 @@
--- The places of an order, the order that the lister finds, and the highest places that a cell has seen.
+-- The places of an order, the order that the lister finds, and the highest places that each row has seen.
 --
--- A place counts from 1, and 0 is that of a job that is not named. Going through the steps of the kept jobs, each cell keeps the highest place among the jobs that
--- have read it so far and among those that have written it: a step whose job stands lower than a job that it conflicts with is the later one of a pair that runs backward.
+-- A place counts from 1, and 0 is that of a job that is not named. Going through the steps of the kept jobs, each row keeps the highest place among the jobs that have
+-- read its cell so far, have written it, or have ended: a step whose job stands lower than a job that it conflicts with is the later one of a pair that runs backward.
 -- Assumes nothing.
 use mathlib.Core.Path.{_≡_}
-use mathlib.Core.Bool.{true, false, _&&_, cond}
+use mathlib.Core.Bool.{Bool, true, false, _&&_, cond}
 use mathlib.Core.Option.{Option, none, some}
 use mathlib.Core.List.{List, [], _∷_}
 use Prim.Native.Nat.{ℕ, zero, suc, _<_, max}
 use lib.Dec.{ltb, eqb}
 use lib.ListN.{length, getD, take}
-use Rattle.history.specs.Events.{Kind, read, write, Step, History, opened, kept}
-use Rattle.history.specs.Memory.{same-kind}
+use Rattle.history.specs.Events.{Deed, Step, History, opened, kept}
+use Rattle.history.specs.Memory.{same-deed}
 use Rattle.history.specs.Orders.{order-of}
 use Rattle.verdicts.specs.Verdicts.{missing}
+use Rattle.tallies.specs.Jobs.{room, row-of, looked}
 
 -- ---- the order
 
@@ -44,11 +45,15 @@ pub record Lists (h : History) (count : ℕ) (order placed : List ℕ) : Type 0 
 
 -- ---- the tallies
 
--- the highest place of a job among the steps of that kind on that cell
-abbrev pub highest : List ℕ → Kind → ℕ → List Step → ℕ
-highest order k c [] = 0
-highest order k c (a ∷ s) = cond (eqb (a .cell) c && same-kind (a .kind) k) (max (place-in order (a .job)) (highest order k c s)) (highest order k c s)
+-- the highest place of a job among those that have done d on that cell
+abbrev pub highest : List ℕ → Deed → ℕ → List Step → ℕ
+highest order d c [] = 0
+highest order d c (a ∷ s) = cond (eqb (a .cell) c && same-deed (a .deed) d) (max (place-in order (a .job)) (highest order d c s)) (highest order d c s)
 
-pub record Tallied (order : List ℕ) (s : List Step) (reads writes : List ℕ) : Type 0 where
-  pub of-reads : (c : ℕ) → c < 256 → getD reads c 0 ≡ highest order read c s
-  pub of-writes : (c : ℕ) → c < 256 → getD writes c 0 ≡ highest order write c s
+-- the list has it for each row
+abbrev pub Tallied : List ℕ → List Step → List ℕ → Type 0
+Tallied order s seen = (d : Deed) (c : ℕ) → c < room d → getD seen (row-of d c) 0 ≡ highest order d c s
+
+-- do the rows that a step at this row looks at have a place above its own?
+abbrev pub stands-low : List ℕ → ℕ → ℕ → Bool
+stands-low seen row place = looked (λ x. ltb place (getD seen x 0)) row

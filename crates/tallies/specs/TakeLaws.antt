@@ -14,12 +14,12 @@ use lib.ListN.{length, getD, set, length-set, length-append, List·getD-append}
 use lib.Seq.{getD-at, getD-set-same, getD-set-other}
 use Rattle.graph.specs.Decide.{Decides, and-test, or-test, not-test, eq-test, le-test, lt-test, own-test, some-test, every-of, every-test, same-test, answer, test-true, test-false}
 use Rattle.graph.specs.Lists.{_∈_, here}
-use Rattle.history.specs.Events.{Kind, read, write, alters, Event, opens, steps, ends, abandons, History, ended-by, abandoned-by, has, opened, ended, abandoned, open-now, Step, step-by, all-steps, wrote}
+use Rattle.history.specs.Events.{read, write, Deed, does, opening, ending, alters-by, Event, opens, steps, ends, abandons, History, ended-by, abandoned-by, has, opened, ended, abandoned, open-now, Step, step-at, step-by, all-steps, wrote}
 use Rattle.history.specs.Replies.{cells, Request, Want, an-open, a-step, an-end, an-abandon, nothing, want, event-of}
 use Rattle.history.specs.Turns.{InTurn}
 use Rattle.history.specs.TurnLaws.{Grows, which-in, old-in, new-in, stays, opened-grows, ended-grows, abandoned-grows, all-steps-grows, has-test, open-from, open-opened, open-not-abandoned, orderly, turns-next}
 use Rattle.verdicts.specs.Logs.{most-jobs, ill-formed, out-of-turn, too-many, fault-of}
-use Rattle.tallies.specs.Jobs.{status, Padded, Jobs, Finds, packed-step, Tells, Told, Taken, Takes}
+use Rattle.tallies.specs.Jobs.{status, Padded, Jobs, Finds, room, packed-step, Packs, Tells, Told, Taken, Takes}
 use Rattle.tallies.specs.PadLaws.{padded-set, padded-more}
 use Rattle.tallies.specs.TableLaws.{member-at, rises, same-entry, found-opened, not-found, found-state, by-status, status-open, status-one}
 
@@ -168,11 +168,11 @@ has-same {l} {k} {n} g i f = same-test (has-test n i) (has-test l i) (λ m. ⊎-
 
 -- a write of the job
 abbrev Write : ℕ → Step → Type 0
-Write i s = (s .job ≡ i) × T (alters (s .kind))
+Write i s = (s .job ≡ i) × T (alters-by (s .deed))
 
 wrote-test : (h : History) (i : ℕ) → Decides (wrote h i) ((s : Step) × (s ∈ all-steps h) × Write i s)
 unfolding wrote
-wrote-test h i = some-test (λ (s : Step). and-test (eq-test (s .job) i) (own-test (alters (s .kind)))) (all-steps h)
+wrote-test h i = some-test (λ (s : Step). and-test (eq-test (s .job) i) (own-test (alters-by (s .deed)))) (all-steps h)
 
 module _ (h : History) (e : Event) (i : ℕ) where
   wrote-same : ((s : Step) → s ∈ step-by (length h) e → Write i s → ⊥) → wrote (h ++ e ∷ []) i ≡ wrote h i
@@ -189,6 +189,10 @@ module _ (h : History) (e : Event) (i : ℕ) where
       ∙ ap (λ (b : Bool). cond (has (abandoned h) i) 4 (cond b 3 (cond (wrote (h ++ e ∷ []) i) 2 1))) (has-same (ended-grows h e) i fe)
       ∙ ap (λ (b : Bool). cond (has (abandoned h) i) 4 (cond (has (ended h) i) 3 (cond b 2 1))) (wrote-same fw)
 
+-- a step that alters nothing is no write
+unaltered : {s b : Step} → s ∈ b ∷ [] → (T (alters-by (b .deed)) → ⊥) → T (alters-by (s .deed)) → ⊥
+unaltered m f t = f (subst (λ (x : Step). T (alters-by (x .deed))) (List·Memᴰ·eq-of-singleton m) t)
+
 -- ---- steps told
 
 -- one list is the other with more at its end
@@ -203,10 +207,13 @@ wider {l} {k} {n} g =
       entries = λ i q. ap (λ (m : List ℕ). getD m i 0) (g .joined) ∙ List·getD-append l k 0 i q;
     }
 
+packs-wider : {l n : List ℕ} → Wider l n → (d : Deed) (j c x : ℕ) → Packs l d j c x → Packs n d j c x
+packs-wider w d j c x t = (t .0, (let q = w .longer in let p = t .1 in omega arith), w .entries (t .0) (t .1) ∙ t .2, t .3, t .4)
+
 tells-wider : {l n : List ℕ} → Wider l n → (e : Event) (x : ℕ) → Tells l e x → Tells n e x
-tells-wider w (opens j) x t = t
-tells-wider w (steps k j c) x t = (t .0, (let q = w .longer in let p = t .1 in omega arith), w .entries (t .0) (t .1) ∙ t .2, t .3, t .4)
-tells-wider w (ends j) x t = t
+tells-wider w (opens j) x t = packs-wider w opening j 0 x t
+tells-wider w (steps k j c) x t = packs-wider w (does k) j c x t
+tells-wider w (ends j) x t = packs-wider w ending j 0 x t
 tells-wider w (abandons j) x t = t
 
 -- the same places tell the same, also with more jobs
@@ -245,6 +252,16 @@ module _ {h : History} {n : ℕ} {numbers states told : List ℕ} {count : ℕ} 
   taken-untold : {numbers₂ states₂ : List ℕ} {count₂ : ℕ} → Jobs (h ++ e ∷ []) numbers₂ states₂ count₂ → ((x : ℕ) → x ≡ 0 → Tells (opened (h ++ e ∷ [])) e x)
       → Taken (h ++ e ∷ []) (suc n) numbers₂ states₂ told count₂
   taken-untold jobs x = taken-next jobs (x (getD told n 0) (t .rest n (omega arith))) (λ i f. refl) refl
+
+  -- what the job at place i has done is told
+  taken-told : (d : Deed) (j c i x : ℕ) {numbers₂ states₂ : List ℕ} {count₂ : ℕ} → Jobs (h ++ e ∷ []) numbers₂ states₂ count₂
+      → ((y : ℕ) → Packs (opened (h ++ e ∷ [])) d j c y → Tells (opened (h ++ e ∷ [])) e y)
+      → i < count₂ → getD numbers₂ i 0 ≡ j → c < room d → n < length told → x ≡ packed-step i d c → Taken (h ++ e ∷ []) (suc n) numbers₂ states₂ (set told n x) count₂
+  taken-told d j c i x jobs f q is real w z =
+      taken-next jobs
+      (f (getD (set told n x) n 0) (i, (let m = jobs .many in omega arith), sym (jobs .named i q) ∙ is, real, getD-set-same told n x 0 w ∙ z))
+      (λ p ne. getD-set-other told n p x 0 ne)
+      (length-set told n x)
 
 -- the table after an event of a job that is in it
 module _ {h : History} {numbers states : List ℕ} {count : ℕ} (jobs : Jobs h numbers states count) (e : Event) (turn : InTurn h e) (o : opened (h ++ e ∷ []) ≡ opened h) where
@@ -311,7 +328,7 @@ jobs-opens {h} {numbers} {states} {count} jobs j turn few ln ls =
     new i z = ap (λ (l : List ℕ). getD l i 0) o ∙ getD-at (opened h) j [] 0 i (let m = jobs .many in omega arith)
 
     same : (i : ℕ) → status (h ++ opens j ∷ []) i ≡ status h i
-    same i = status-same h (opens j) i (λ m. List·Memᴰ·not-nil m) (λ m. List·Memᴰ·not-nil m) (λ s m w. List·Memᴰ·not-nil m)
+    same i = status-same h (opens j) i (λ m. List·Memᴰ·not-nil m) (λ m. List·Memᴰ·not-nil m) (λ s m w. unaltered m (λ t. t) (w .1))
 
     -- the new job is above all that were opened, so nothing was done for it
     fresh : j ∈ opened h → ⊥
@@ -335,7 +352,7 @@ module _ (h : History) (j : ℕ) (m : j ∈ open-now h) where
       (λ a. absurd (open-not-abandoned h m (⊎-elim (λ x. x) (λ x. absurd (List·Memᴰ·not-nil x)) (which-in (abandoned-grows h e) a))))
       (λ na d. absurd (open-from h m .1 (⊎-elim (λ x. x) (λ x. absurd (List·Memᴰ·not-nil x)) (which-in (ended-grows h e) d))))
       (λ na nd w. refl)
-      (λ na nd nw. absurd (nw (wrote-test (h ++ e ∷ []) j .shows (record { at = length h; kind = write; job = j; cell = c }, new-in (all-steps-grows h e) here, (refl, tt)))))
+      (λ na nd nw. absurd (nw (wrote-test (h ++ e ∷ []) j .shows (step-at (length h) (does write) j c, new-in (all-steps-grows h e) here, (refl, tt)))))
 
   status-ends : status (h ++ ends j ∷ []) j ≡ 3
   status-ends =
@@ -359,10 +376,10 @@ module _ (h : History) (j i : ℕ) where
   others-reads : (c : ℕ) → status (h ++ steps read j c ∷ []) i ≡ status h i
   others-reads c =
       status-same h (steps read j c) i (λ m. List·Memᴰ·not-nil m) (λ m. List·Memᴰ·not-nil m)
-      (λ s m w. subst (λ (x : Step). T (alters (x .kind))) (List·Memᴰ·eq-of-singleton m) (w .1))
+      (λ s m w. unaltered m (λ t. t) (w .1))
 
   others-ends : (i ≡ j → ⊥) → status (h ++ ends j ∷ []) i ≡ status h i
-  others-ends f = status-same h (ends j) i (λ m. List·Memᴰ·not-nil m) (λ m. f (List·Memᴰ·eq-of-singleton m)) (λ s m w. List·Memᴰ·not-nil m)
+  others-ends f = status-same h (ends j) i (λ m. List·Memᴰ·not-nil m) (λ m. f (List·Memᴰ·eq-of-singleton m)) (λ s m w. unaltered m (λ t. t) (w .1))
 
   others-abandons : (i ≡ j → ⊥) → status (h ++ abandons j ∷ []) i ≡ status h i
   others-abandons f = status-same h (abandons j) i (λ m. f (List·Memᴰ·eq-of-singleton m)) (λ m. List·Memᴰ·not-nil m) (λ s m w. List·Memᴰ·not-nil m)
@@ -443,14 +460,15 @@ module _ {h : History} {n : ℕ} {numbers states told : List ℕ} {count : ℕ} 
   pub takes-open-many : {c j : ℕ} → c ≡ 0 → (count ≡ 0) ⊎ (getD numbers (count - 1) 0 < j) → 512 ≤ count → Takes h n (asked 1 0 c j) 14 numbers states told count
   takes-open-many {c} {j} z f l = refused 13 (open-many h c j z (above (t .jobs) j f) (let m = t .jobs .many in omega arith))
 
-  pub takes-open : {c j : ℕ} → c ≡ 0 → (count ≡ 0) ⊎ (getD numbers (count - 1) 0 < j) → count < 512 → length numbers ≡ 512 → length states ≡ 512
-      → Takes h n (asked 1 0 c j) 0 (set numbers count j) (set states count 1) told (count + 1)
+  pub takes-open : {c j x : ℕ} → c ≡ 0 → (count ≡ 0) ⊎ (getD numbers (count - 1) 0 < j) → count < 512 → length numbers ≡ 512 → length states ≡ 512 → n < length told
+      → x ≡ count * 514 + 513 → Takes h n (asked 1 0 c j) 0 (set numbers count j) (set states count 1) (set told n x) (count + 1)
   unfolding want event-of
-  takes-open {c} {j} z f l ln ls =
+  takes-open {c} {j} {x} z f l ln ls w e =
       let a = above (t .jobs) j f in
       record {
         fault = sym (open-good h c j z a (λ q. let m = t .jobs .many in omega arith));
-        next = λ e. taken-untold t (opens j) (jobs-opens (t .jobs) j a l (omega arith) (omega arith)) (λ x q. q);
+        next = λ y. taken-told t (opens j) opening j 0 count x (jobs-opens (t .jobs) j a l (omega arith) (omega arith)) (λ v p. p) (omega arith)
+            (getD-set-same numbers count j 0 (omega arith)) (omega arith) w (omega arith);
       }
 
   module _ {j i : ℕ} (f : Finds count numbers j i) where
@@ -461,26 +479,19 @@ module _ {h : History} {n : ℕ} {numbers states told : List ℕ} {count : ℕ} 
     pub takes-step-shut : (b : Bool) {c : ℕ} → c < cells → (i ≡ count → ⊥) → 2 < getD states i 0 → Takes h n (asked (cond b 3 2) 0 c j) 13 numbers states told count
     takes-step-shut b {c} l g s = refused 12 (step-shut h c j b (λ q. omega arith) (shut (t .jobs) f g s))
 
-    told-step : (k : Kind) (c x : ℕ) → c < cells → (i ≡ count → ⊥) → n < length told → x ≡ packed-step i k c → {states₂ : List ℕ} → Jobs (h ++ steps k j c ∷ []) numbers states₂ count
-        → Taken (h ++ steps k j c ∷ []) (suc n) numbers states₂ (set told n x) count
-    told-step k c x l g w e jobs =
-        let r = place (t .jobs) f g in
-        taken-next t (steps k j c) jobs
-        (i, (let m = jobs .many in let q = r .0 in omega arith), sym (jobs .named i (r .0)) ∙ r .1, l, getD-set-same told n x 0 w ∙ e)
-        (λ p ne. getD-set-other told n p x 0 ne)
-        (length-set told n x)
-
-    takes-read : {c x : ℕ} → c < cells → (i ≡ count → ⊥) → getD states i 0 ≤ 2 → n < length told → x ≡ i * 512 + c + 1
+    takes-read : {c x : ℕ} → c < cells → (i ≡ count → ⊥) → getD states i 0 ≤ 2 → n < length told → x ≡ i * 514 + c + 1
         → Takes h n (asked 2 0 c j) 0 numbers states (set told n x) count
     unfolding want event-of
     takes-read {c} {x} l g s w e =
         let m = is-open (t .jobs) f g s in
+        let r = place (t .jobs) f g in
         record {
           fault = sym (step-good h c j false (λ q. omega arith) m);
-          next = λ z. told-step read c x l g w (omega arith) (jobs-same (t .jobs) (steps read j c) (m, l) (stays (opened-grows h (steps read j c))) (λ p. others-reads h j p c));
+          next = λ z. taken-told t (steps read j c) (does read) j c i x (jobs-same (t .jobs) (steps read j c) (m, l) (stays (opened-grows h (steps read j c))) (λ p. others-reads h j p c))
+              (λ v p. p) (r .0) (r .1) l w e;
         }
 
-    takes-write : {c x : ℕ} → c < cells → (i ≡ count → ⊥) → getD states i 0 ≤ 2 → n < length told → x ≡ i * 512 + c + 1 + 256 → count ≤ length states
+    takes-write : {c x : ℕ} → c < cells → (i ≡ count → ⊥) → getD states i 0 ≤ 2 → n < length told → x ≡ i * 514 + c + 1 + 256 → count ≤ length states
         → Takes h n (asked 3 0 c j) 0 numbers (set states i 2) (set told n x) count
     unfolding want event-of
     takes-write {c} {x} l g s w e ls =
@@ -488,13 +499,14 @@ module _ {h : History} {n : ℕ} {numbers states told : List ℕ} {count : ℕ} 
         let r = place (t .jobs) f g in
         record {
           fault = sym (step-good h c j true (λ q. omega arith) m);
-          next = λ z. told-step write c x l g w (omega arith)
-              (jobs-set (t .jobs) (steps write j c) (m, l) (stays (opened-grows h (steps write j c))) i j 2 (r .0) (r .1) ls (status-writes h j m c) (λ p ne. others-writes h j p c ne));
+          next = λ z. taken-told t (steps write j c) (does write) j c i x
+              (jobs-set (t .jobs) (steps write j c) (m, l) (stays (opened-grows h (steps write j c))) i j 2 (r .0) (r .1) ls (status-writes h j m c) (λ p ne. others-writes h j p c ne))
+              (λ v p. p) (r .0) (r .1) l w (omega arith);
         }
 
     -- either of the two, as the code joins them
     pub takes-step : (b : Bool) {c x : ℕ} {states₂ : List ℕ} → c < cells → (i ≡ count → ⊥) → getD states i 0 ≤ 2 → n < length told → count ≤ length states
-        → ((b ≡ true) × (states₂ ≡ set states i 2) × (x ≡ i * 512 + c + 1 + 256)) ⊎ ((b ≡ false) × (states₂ ≡ states) × (x ≡ i * 512 + c + 1))
+        → ((b ≡ true) × (states₂ ≡ set states i 2) × (x ≡ i * 514 + c + 1 + 256)) ⊎ ((b ≡ false) × (states₂ ≡ states) × (x ≡ i * 514 + c + 1))
         → Takes h n (asked (cond b 3 2) 0 c j) 0 numbers states₂ (set told n x) count
     takes-step b {c} {x} l g s w ls =
         let P : Bool → List ℕ → Type 0 = λ b states₂. Takes h n (asked (cond b 3 2) 0 c j) 0 numbers states₂ (set told n x) count in
@@ -507,15 +519,17 @@ module _ {h : History} {n : ℕ} {numbers states told : List ℕ} {count : ℕ} 
     pub takes-end-shut : {c : ℕ} → c ≡ 0 → (i ≡ count → ⊥) → 2 < getD states i 0 → Takes h n (asked 4 0 c j) 13 numbers states told count
     takes-end-shut {c} z g s = refused 12 (end-shut h c j z (shut (t .jobs) f g s))
 
-    pub takes-end : {c : ℕ} → c ≡ 0 → (i ≡ count → ⊥) → getD states i 0 ≤ 2 → count ≤ length states → Takes h n (asked 4 0 c j) 0 numbers (set states i 3) told count
+    pub takes-end : {c x : ℕ} → c ≡ 0 → (i ≡ count → ⊥) → getD states i 0 ≤ 2 → n < length told → x ≡ i * 514 + 514 → count ≤ length states
+        → Takes h n (asked 4 0 c j) 0 numbers (set states i 3) (set told n x) count
     unfolding want event-of
-    takes-end {c} z g s ls =
+    takes-end {c} {x} z g s w e ls =
         let m = is-open (t .jobs) f g s in
         let r = place (t .jobs) f g in
         record {
           fault = sym (end-good h c j z m);
-          next = λ e. taken-untold t (ends j)
-              (jobs-set (t .jobs) (ends j) m (stays (opened-grows h (ends j))) i j 3 (r .0) (r .1) ls (status-ends h j m) (λ p ne. others-ends h j p ne)) (λ x q. q);
+          next = λ y. taken-told t (ends j) ending j 0 i x
+              (jobs-set (t .jobs) (ends j) m (stays (opened-grows h (ends j))) i j 3 (r .0) (r .1) ls (status-ends h j m) (λ p ne. others-ends h j p ne))
+              (λ v p. p) (r .0) (r .1) (omega arith) w (omega arith);
         }
 
     -- an abandon

@@ -861,9 +861,9 @@ fn tails() {
 }
 
 fn main() {
-    let mut space = io::large_buffer();
+    let mut space = [0u8; 131072];
     let count = io::read_full(libc::STDIN_FILENO, &mut space);
     let done = all_lines(&space[..count]);
-    say_counts(done, count == 65536);
+    say_counts(done, count == 131072);
     tails();
 }

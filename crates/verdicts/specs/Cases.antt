@@ -100,6 +100,10 @@ circle =
 abbrev pub chain : List Request
 chain = opens 1 ∷ opens 2 ∷ opens 3 ∷ writes 1 5 ∷ reads 2 5 ∷ reads 2 6 ∷ writes 3 6 ∷ []
 
+-- P3 with the write of job 2 on cell 6 granted too: 2 precedes 1 by cell 5, at records 2 and 3; 1 ends at 4 and 3 is opened at 5; 3 precedes 2 by cell 6, at 6 and 8
+abbrev pub old-p3 : List ℕ
+old-p3 = log (opens 1 ∷ opens 2 ∷ reads 2 5 ∷ writes 1 5 ∷ end 1 ∷ opens 3 ∷ reads 3 6 ∷ end 3 ∷ writes 2 6 ∷ end 2 ∷ [])
+
 -- log A and log B of the rules, R125 and R133: 5 precedes 4 by cell 3, at records 2 and 3; in B also 4 precedes 5, at 3 and 4
 abbrev pub log-a : List Request
 log-a = opens 4 ∷ opens 5 ∷ writes 5 3 ∷ reads 4 3 ∷ []
@@ -287,10 +291,18 @@ pair-rows =
     ∷ log (opens 1 ∷ opens 2 ∷ reads 1 5 ∷ reads 2 5 ∷ []) with 2 ∷ 1 ∷ [] gets 0 at 2
     ∷ log (opens 1 ∷ opens 2 ∷ writes 1 5 ∷ writes 2 6 ∷ []) with 2 ∷ 1 ∷ [] gets 0 at 2
     ∷ log-after p7 with 1 ∷ [] gets 0 at 1
-    -- P3: pairs at 2 and 3, job 2 before job 1, and at 6 and 8, job 3 before job 2
-    ∷ log-after p3 with 3 ∷ 2 ∷ 1 ∷ [] gets 0 at 3
+    -- P3: pairs at 2 and 3, job 2 before job 1, and at 4 and 5, job 1 ended before job 3 was opened
+    ∷ log-after p3 with 2 ∷ 1 ∷ 3 ∷ [] gets 0 at 3
     ∷ log-after p3 with 1 ∷ 2 ∷ 3 ∷ [] gets 16 at 3
-    ∷ log-after p3 with 2 ∷ 1 ∷ 3 ∷ [] gets 16 at 8
+    ∷ log-after p3 with 2 ∷ 3 ∷ 1 ∷ [] gets 16 at 5
+    ∷ log-after p3 with 3 ∷ 2 ∷ 1 ∷ [] gets 16 at 5
+    -- with the write of job 2 granted too there is a pair more, at 6 and 8, job 3 before job 2; whatever the order, one is backward
+    ∷ old-p3 with 1 ∷ 2 ∷ 3 ∷ [] gets 16 at 3
+    ∷ old-p3 with 1 ∷ 3 ∷ 2 ∷ [] gets 16 at 3
+    ∷ old-p3 with 2 ∷ 1 ∷ 3 ∷ [] gets 16 at 8
+    ∷ old-p3 with 2 ∷ 3 ∷ 1 ∷ [] gets 16 at 5
+    ∷ old-p3 with 3 ∷ 1 ∷ 2 ∷ [] gets 16 at 3
+    ∷ old-p3 with 3 ∷ 2 ∷ 1 ∷ [] gets 16 at 5
     -- the lowest later record, though the other pair begins sooner: pairs at 2 and 5, and at 3 and 4
     ∷ log (opens 1 ∷ opens 2 ∷ writes 1 5 ∷ writes 1 6 ∷ reads 2 6 ∷ reads 2 5 ∷ []) with 2 ∷ 1 ∷ [] gets 16 at 4
     -- the examples of the rules
@@ -310,7 +322,32 @@ pair-rows =
 
 pair-rows-hold : AsExpected pair-rows
 unfolding checked
-pair-rows-hold c = rows checked (λ c. c .expected) (refl, (refl, (refl, (refl, (refl, (refl, (refl, (refl, (refl, (refl, (refl, (refl, (refl, (refl, (refl, (refl, (refl, (refl, (refl, (refl, tt))))))))))))))))))))
+pair-rows-hold c = rows checked (λ c. c .expected) (refl, (refl, (refl, (refl, (refl, (refl, (refl, (refl, (refl, (refl, (refl, (refl, (refl, (refl, (refl, (refl, (refl, (refl, (refl, (refl, (refl, (refl, (refl, (refl, (refl, (refl, (refl, tt)))))))))))))))))))))))))))
+
+-- an end and an opening after it, with no step at all or with some
+abbrev pub time-rows : List CheckCase
+time-rows =
+    -- the later record is the open; not where the other was opened before the end, nor an abandon in place of the end, nor where the later job is abandoned
+    log (opens 1 ∷ end 1 ∷ opens 2 ∷ []) with 1 ∷ 2 ∷ [] gets 0 at 2
+    ∷ log (opens 1 ∷ end 1 ∷ opens 2 ∷ []) with 2 ∷ 1 ∷ [] gets 16 at 2
+    ∷ log (opens 1 ∷ opens 2 ∷ end 1 ∷ end 2 ∷ []) with 2 ∷ 1 ∷ [] gets 0 at 2
+    ∷ log (opens 1 ∷ abandon 1 ∷ opens 2 ∷ []) with 2 ∷ [] gets 0 at 1
+    ∷ log (opens 1 ∷ end 1 ∷ opens 2 ∷ abandon 2 ∷ opens 3 ∷ []) with 1 ∷ 3 ∷ [] gets 0 at 2
+    -- three jobs one after the other: pairs at 1 and 2, at 1 and 4, at 3 and 4
+    ∷ log (opens 1 ∷ end 1 ∷ opens 2 ∷ end 2 ∷ opens 3 ∷ []) with 1 ∷ 2 ∷ 3 ∷ [] gets 0 at 3
+    ∷ log (opens 1 ∷ end 1 ∷ opens 2 ∷ end 2 ∷ opens 3 ∷ []) with 1 ∷ 3 ∷ 2 ∷ [] gets 16 at 4
+    ∷ log (opens 1 ∷ end 1 ∷ opens 2 ∷ end 2 ∷ opens 3 ∷ []) with 2 ∷ 3 ∷ 1 ∷ [] gets 16 at 2
+    -- a conflicting pair too: its later step stands after the open, at 4, and before it, at 3
+    ∷ log (opens 1 ∷ writes 1 5 ∷ end 1 ∷ opens 2 ∷ reads 2 5 ∷ []) with 2 ∷ 1 ∷ [] gets 16 at 3
+    ∷ log (opens 1 ∷ opens 2 ∷ writes 1 5 ∷ reads 2 5 ∷ end 1 ∷ opens 3 ∷ []) with 3 ∷ 2 ∷ 1 ∷ [] gets 16 at 3
+    ∷ log (opens 1 ∷ opens 2 ∷ writes 1 5 ∷ reads 2 5 ∷ end 1 ∷ opens 3 ∷ []) with 3 ∷ 1 ∷ 2 ∷ [] gets 16 at 5
+    -- steps on cell 0 are no openings and no ends: job 2 before job 1
+    ∷ log (opens 1 ∷ opens 2 ∷ reads 1 0 ∷ writes 1 7 ∷ end 1 ∷ reads 2 0 ∷ end 2 ∷ []) with 2 ∷ 1 ∷ [] gets 0 at 2
+    ∷ []
+
+time-rows-hold : AsExpected time-rows
+unfolding checked
+time-rows-hold c = rows checked (λ c. c .expected) (refl, (refl, (refl, (refl, (refl, (refl, (refl, (refl, (refl, (refl, (refl, (refl, tt))))))))))))
 
 -- numbers and bytes; how many jobs are open
 abbrev pub number-rows : List CheckCase
@@ -332,11 +369,11 @@ number-rows-hold c = rows checked (λ c. c .expected) (refl, (refl, (refl, (refl
 
 -- the whole table
 abbrev pub check-table : List CheckCase
-check-table = entry-rows ++ length-rows ++ form-rows ++ turn-rows ++ fault-rows ++ kept-rows ++ pair-rows ++ number-rows
+check-table = entry-rows ++ length-rows ++ form-rows ++ turn-rows ++ fault-rows ++ kept-rows ++ pair-rows ++ time-rows ++ number-rows
 
 -- the checker's verdict on every row is the one expected
 pub check-cases : (c : CheckCase) → c ∈ check-table → check (c .bytes) (c .order) ≡ c .expected
-check-cases = entry-rows-hold and length-rows-hold and form-rows-hold and turn-rows-hold and fault-rows-hold and kept-rows-hold and pair-rows-hold and number-rows-hold
+check-cases = entry-rows-hold and length-rows-hold and form-rows-hold and turn-rows-hold and fault-rows-hold and kept-rows-hold and pair-rows-hold and time-rows-hold and number-rows-hold
 
 -- ---- the lister
 
@@ -357,8 +394,10 @@ list-table =
     ∷ log-after p1 into 7 ∷ 8 ∷ [] gets 0 at 2 leaving (1 ∷ 2 ∷ [])
     ∷ log-after p1 into 7 ∷ [] gets 18 at 2 leaving (7 ∷ [])
     ∷ log-after p1 into [] gets 18 at 2 leaving []
-    -- P3: 3, 2, 1 is its one order
-    ∷ log-after p3 into 7 ∷ 8 ∷ 9 ∷ [] gets 0 at 3 leaving (3 ∷ 2 ∷ 1 ∷ [])
+    -- P3: 2, 1, 3 is its one order; with the write of job 2 granted too it has none
+    ∷ log-after p3 into 7 ∷ 8 ∷ 9 ∷ [] gets 0 at 3 leaving (2 ∷ 1 ∷ 3 ∷ [])
+    ∷ old-p3 into 7 ∷ 8 ∷ 9 ∷ [] gets 17 at 0 leaving (7 ∷ 8 ∷ 9 ∷ [])
+    ∷ old-p3 into 7 ∷ 8 ∷ [] gets 18 at 3 leaving (7 ∷ 8 ∷ [])
     -- P6: job 2, abandoned, needs no room
     ∷ log-after p6 into 7 ∷ 8 ∷ 9 ∷ [] gets 0 at 2 leaving (3 ∷ 1 ∷ 9 ∷ [])
     ∷ log-after p6 into 7 ∷ 8 ∷ [] gets 0 at 2 leaving (3 ∷ 1 ∷ [])
@@ -402,7 +441,7 @@ answered c = list-order (c .bytes) (c .lent)
 -- the lister's answer to every row is the one expected, and so is what then stands in the list
 pub list-cases : (c : ListCase) → c ∈ list-table → list-order (c .bytes) (c .lent) ≡ c .expected
 unfolding answered
-list-cases c = rows answered (λ c. c .expected) (refl, (refl, (refl, (refl, (refl, (refl, (refl, (refl, (refl, (refl, (refl, (refl, (refl, (refl, (refl, (refl, (refl, (refl, (refl, (refl, (refl, (refl, (refl, (refl, (refl, (refl, (refl, (refl, (refl, tt)))))))))))))))))))))))))))))
+list-cases c = rows answered (λ c. c .expected) (refl, (refl, (refl, (refl, (refl, (refl, (refl, (refl, (refl, (refl, (refl, (refl, (refl, (refl, (refl, (refl, (refl, (refl, (refl, (refl, (refl, (refl, (refl, (refl, (refl, (refl, (refl, (refl, (refl, (refl, (refl, tt)))))))))))))))))))))))))))))))
 
 -- ---- the two limits, of any log
 

@@ -9,13 +9,14 @@ use mathlib.Core.List.{List, _∷_, _++_}
 use Prim.Native.Nat.{ℕ, _+_, _*_, _≤_}
 use native.Mathlib.Omega.{arith}
 use lib.ListN.{length}
-use Rattle.history.specs.Events.{History, opened, kept, Step, kept-steps}
+use Rattle.graph.specs.Lists.{_∈_, Before}
+use Rattle.history.specs.Events.{Kind, does, Event, History, opened, kept, Step, kept-steps}
 use Rattle.history.specs.Replies.{Request, history-of}
 use Rattle.history.specs.Turns.{Turns}
 use Rattle.history.specs.Orders.{layout, Accepted}
 use Rattle.history.specs.Run.{Program, last-write}
 use Rattle.history.specs.OrderLaws.{accepted-no-circle}
-use Rattle.history.specs.Promises.{AsTheLog, one-at-a-time, same-reads, same-ends, granted-order}
+use Rattle.history.specs.Promises.{AsTheLog, one-at-a-time, same-reads, same-ends, real-time, granted-order}
 use Rattle.verdicts.specs.Logs.{Reading, faulty, events, most-jobs, read-log, log-of}
 use Rattle.verdicts.specs.Verdicts.{Verdict, check, Listed, listed, list-of, list-order}
 use Rattle.verdicts.specs.LogLaws.{Fault, faults, read-turns, read-back, Sized, granted-read}
@@ -36,18 +37,22 @@ verdict-only bytes order v = checked-only bytes order
 pub accepts-exactly : (bytes order : List ℕ) → (check bytes order .code ≡ 0) ↔ ((h : History) × (read-log bytes ≡ events h) × Accepted h order)
 accepts-exactly = check-exactly
 
--- what an accepted order of a log is good for: each kept read follows the same last write, each cell ends with the same write, and whatever the
--- jobs compute, one at a time in that order they read and leave the same
+-- what an accepted order of a log is good for: each kept read follows the same last write, each cell ends with the same write, whatever the
+-- jobs compute, one at a time in that order they read and leave the same, and a job stands before every kept job that was opened after its end
 pub record GoodFor (h : History) (order : List ℕ) : Type 1 where
-  pub reads : (r : Step) (p p′ q q′ : List Step) → kept-steps h ≡ p ++ r ∷ p′ → layout (kept-steps h) order ≡ q ++ r ∷ q′ → last-write (r .cell) p ≡ last-write (r .cell) q
+  pub reads : (r : Step) (k : Kind) → r .deed ≡ does k → (p p′ q q′ : List Step) → kept-steps h ≡ p ++ r ∷ p′ → layout (kept-steps h) order ≡ q ++ r ∷ q′ → last-write (r .cell) p ≡ last-write (r .cell) q
   pub ends : (c : ℕ) → last-write c (kept-steps h) ≡ last-write c (layout (kept-steps h) order)
   pub whatever : (X : Type 0) (f : Program X) (g : ℕ → X) → AsTheLog X f g h order
+  pub in-time : (i j : ℕ) → j ∈ kept h → Before (Event.ends i) (Event.opens j) h → Before i j order
 
 pub accepted-good : (bytes order : List ℕ) → check bytes order .code ≡ 0 → (h : History) × (read-log bytes ≡ events h) × GoodFor h order
 accepted-good bytes order z =
     let r = check-exactly bytes order .0 z in
-    let t = read-turns bytes (r .0) (r .1) in
-    (r .0, r .1, record { reads = same-reads (r .0) t order (r .2); ends = same-ends (r .0) t order (r .2); whatever = one-at-a-time (r .0) t order (r .2) })
+    let t = read-turns bytes (r .0) (r .1) in (
+      r .0,
+      r .1,
+      record { reads = same-reads (r .0) t order (r .2); ends = same-ends (r .0) t order (r .2); whatever = one-at-a-time (r .0) t order (r .2); in-time = real-time (r .0) t order (r .2) },
+    )
 
 -- ---- the lister
 

@@ -38,7 +38,8 @@ abbrev pub stands-before : List ℕ → ℕ → ℕ → Bool
 stands-before [] i j = false
 stands-before (x ∷ order) i j = (eqb x i && has order j) || stands-before order i j
 
--- the later step b of a conflicting pair runs backward: its job stands before the earlier step's job
+-- the later step b of a conflicting pair runs backward: its job stands before the earlier step's job. Where the earlier one is an end, b is the opening of a
+-- job that was opened after it
 unfoldable pub backward : List ℕ → List Step → Step → Bool
 backward order earlier b = some-of (λ a. conflict a b && stands-before order (b .job) (a .job)) earlier
 

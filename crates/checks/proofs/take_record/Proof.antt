@@ -9,9 +9,8 @@ returns-byte c = let s = c .before .before in let r = s .args .r in (s .pre .0, 
 
 returns-open : tie.Need-returns-2
 returns-open c =
-    let m = c .before .before .before in
-    let s = m .before .before .before in
-    (c .take-open .ensures .0, λ h t. takes-as (m .match .keys1) (m .before .if1 .left) (c .take-open .ensures .1 h (s .args .place) (s .args .told .now) t))
+    let m = c .before .before .before .before in
+    (c .take-open .ensures .0, λ h t. takes-as (m .match .keys1) (m .before .if1 .left) (c .take-open .ensures .1 h t))
 
 returns-read : tie.Need-returns-3
 returns-read c =
@@ -25,9 +24,8 @@ returns-write c =
 
 returns-end : tie.Need-returns-5
 returns-end c =
-    let m = c .before .before .before in
-    let s = m .before .before .before in
-    (s .pre .0, λ h t. takes-as (m .match .keys4) (m .before .if1 .left) (c .take-end .ensures h (s .args .place) (s .args .told .now) t))
+    let m = c .before .before .before .before in
+    (m .before .before .before .pre .0, λ h t. takes-as (m .match .keys4) (m .before .if1 .left) (c .take-end .ensures h t))
 
 returns-abandon : tie.Need-returns-6
 returns-abandon c =

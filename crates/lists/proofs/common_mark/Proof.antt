@@ -9,7 +9,7 @@ use borrow.Author.Needs.{needs}
 use lib.Bits.{bitAnd, and-le-l}
 use lib.ListN.{getD}
 use Rattle.graph.specs.Decide.{answer, eq-test}
-use Rattle.marks.specs.MarkLaws.{Lowest, lowest-mark}
+use Rattle.marks.specs.MarkLaws.{Highest, highest-mark}
 use Rattle.tallies.specs.MarkLaws.{common-found, common-none}
 use Rattle.lists.proofs.common_mark.Statement.{statement}
 use Rattle.lists.proofs.common_mark.Tie as tie
@@ -44,23 +44,26 @@ mul-both-2 c = search needs
 shared-slice-read-both-2 : tie.Need-shared-slice-read-both-2 Inv-loop μ-loop
 shared-slice-read-both-2 c = search needs
 
--- what is common is not 0, and has a lowest mark
+-- what is common is not 0, and has a highest mark
 found : (c : tie.Then1 Inv-loop μ-loop) →
     let l = c .before .before .before .before in
     let a = l .before .before .before .args in
-    Lowest 64 (bitAnd (getD (a .rows .now) (a .row * 8 + (l .loop .w - 1)) 0) (getD (a .words .now) (l .loop .w - 1) 0))
+    Highest 64 (bitAnd (getD (a .rows .now) (a .row * 8 + (l .loop .w - 1)) 0) (getD (a .words .now) (l .loop .w - 1) 0))
 found c =
     let l = c .before .before .before .before in
     let a = l .before .before .before .args in
     let one = getD (a .rows .now) (a .row * 8 + (l .loop .w - 1)) 0 in
     let two = getD (a .words .now) (l .loop .w - 1) 0 in
-    lowest-mark 64 (bitAnd one two) (lt-of-le-of-lt (and-le-l one two) (c .before .before .shared-slice-known .given (a .row * 8 + (l .loop .w - 1)) .fits)) (c .if1 .taken)
+    highest-mark 64 (bitAnd one two) (lt-of-le-of-lt (and-le-l one two) (c .before .before .shared-slice-known .given (a .row * 8 + (l .loop .w - 1)) .fits)) (c .if1 .taken)
 
 mul-result : tie.Need-mul-result Inv-loop μ-loop
 mul-result c = search needs
 
 cast-result : tie.Need-cast-result Inv-loop μ-loop
 cast-result c = omega (arith, found c .inside)
+
+sub-result : tie.Need-sub-result Inv-loop μ-loop
+sub-result c = omega (arith, found c .inside)
 
 add-result : tie.Need-add-result Inv-loop μ-loop
 add-result c = omega (arith, found c .inside)
@@ -106,6 +109,7 @@ common-mark-spec =
     shared-slice-read-both-2
     mul-result
     cast-result
+    sub-result
     add-result
     returns
     loop-less
