@@ -206,6 +206,45 @@ enum { REEDTANGLE_BATCH_LENGTH = 25 };
 
 uint64_t reedtangle_batch(uint64_t *next, uint32_t *free, uint32_t *numbers, uint32_t *leads, uint64_t *sets, const uint8_t *requests, size_t length);
 
+/* ---- the report's notation: two functions more, in two archives of their own, target/staticlib/libimporter.a and libexporter.a (`rt staticlib importer`,
+ * `rt staticlib exporter`)
+ *
+ * A log as a text, as Casanova and Bernstein 1981 write it: B for an open, R for a read, W for a write, E for an end, the job in decimal, and of a read or
+ * a write the cell in square brackets, as in `B1 R1[5] W1[6] E1`. One blank between two symbols, no leading zeros, nothing before or after, no zero byte at the end. The empty
+ * text is the empty log. A job is at most 4,294,967,295, a cell in the text at most 65,535; the log rules then refuse one above 255. An abandon has no symbol.
+ * What is said above of all functions holds of these: total, nothing kept, a refusal writes nothing but `*place`. reedtangle_import takes about 43,000 bytes of stack,
+ * reedtangle_export 93,000.
+ */
+
+enum {
+    REEDTANGLE_TEXT_FORM = 26,      /* place: the first byte that no text of the form could have there, or the length where the text only stops short */
+    REEDTANGLE_TEXT_BYTES = 69632   /* room for the text of any log */
+};
+
+/*
+ * The log that a text says. In: `length` bytes of text, any bytes, and `room` bytes for the log. Comes back, with the place in `*place`:
+ *
+ *     0          the log is in `out`; the place is the count of its bytes, eight a symbol, and bytes past them stay
+ *     26         the text is not of the form; tested first
+ *     11         place 0: it has more than 4,096 symbols
+ *     12 to 14   the log is at fault; the place is the symbol, counted from 0
+ *     24         place 0: no room
+ *
+ * The export of that log is the text again.
+ */
+uint32_t reedtangle_import(const uint8_t *text, size_t length, uint8_t *out, size_t room, uint64_t *place);
+
+/*
+ * The text of a log. In: `length` bytes of log, any bytes, and `room` bytes for the text. Comes back, with the place in `*place`:
+ *
+ *     0          the text is in `out`, with no symbol of a job that was abandoned; the place is the count of its bytes, and bytes past them stay
+ *     11 to 14   the log is at fault; the place is as the codes above say
+ *     24         place 0: no room
+ *
+ * The import of that text is the log without the records of the jobs that were abandoned.
+ */
+uint32_t reedtangle_export(const uint8_t *log, size_t length, uint8_t *out, size_t room, uint64_t *place);
+
 /* ---- the state as one piece, and wrappers that take it */
 
 /*

@@ -1,6 +1,6 @@
 #!/bin/sh
 # Builds and runs the C program and the Rust tests over the two archives, and the two examples of README.md.
-# Wants cc and cargo, and `rt staticlib` of arbiter, orders, ledger and batch before. Last line: `N passed, 0 failed`. Leaves nothing behind.
+# Wants cc and cargo, and `rt staticlib` of arbiter, orders, ledger, batch, importer and exporter before. Last line: `N passed, 0 failed`. Leaves nothing behind.
 cd "$(dirname "$0")/.." || exit 1
 work=$(mktemp -d) || exit 1
 trap 'rm -rf "$work"' EXIT
@@ -8,6 +8,7 @@ export CARGO_TARGET_DIR="$work/cargo"
 archives="target/staticlib/libarbiter.a target/staticlib/liborders.a"
 ledger=target/staticlib/libledger.a
 batch=target/staticlib/libbatch.a
+notation="target/staticlib/libimporter.a target/staticlib/libexporter.a"
 strict="-Wall -Wextra -Werror -pedantic"
 passed=0
 failed=0
@@ -44,7 +45,7 @@ example() {
   awk -v open="\`\`\`$1" '$0 == open { on = 1; next } $0 == "```" { on = 0 } on' README.md
 }
 
-for archive in $archives $ledger $batch; do
+for archive in $archives $ledger $batch $notation; do
   try "$archive is there (rt staticlib writes it)" test -f "$archive"
 done
 if [ "$failed" != 0 ]; then
@@ -74,6 +75,12 @@ try "bindings/c/batch.c is built" cc -std=c11 $strict -O1 -g -I bindings binding
 status=$?
 cat "$work/batch.out"
 count "$work/batch.out" $status
+
+try "bindings/c/notation.c is built" cc -std=c11 $strict -O1 -g -I bindings bindings/c/notation.c $notation -o "$work/notation"
+"$work/notation" > "$work/notation.out" 2>&1
+status=$?
+cat "$work/notation.out"
+count "$work/notation.out" $status
 
 try "bindings/c/small.c is built" cc -std=c11 $strict -O1 -g -I bindings bindings/c/small.c $archives -pthread -o "$work/small"
 "$work/small" > "$work/small.out" 2>&1

@@ -133,7 +133,7 @@ faults bytes c p e = go (not (eqb (length bytes % record-bytes) 0) || ltb most-b
 -- ---- the log of a history is read back
 
 -- the record of an event, as fields
-abbrev request-for : Event → Request
+abbrev pub request-for : Event → Request
 request-for (opens j) = record { kind = 1; byte1 = 0; cell = 0; job = j }
 request-for (steps k j c) = record { kind = kind-number k; byte1 = 0; cell = c; job = j }
 request-for (ends j) = record { kind = 4; byte1 = 0; cell = 0; job = j }
@@ -146,11 +146,11 @@ two-bytes c h = omega arith
 four-bytes : (j : ℕ) → j < numbers → j % 256 + j / 256 % 256 * 256 + j / 256 / 256 % 256 * 65536 + j / 256 / 256 / 256 % 256 * 16777216 ≡ j
 four-bytes j h = omega arith
 
-read-fields : (k c j : ℕ) (rest : List ℕ) → c < 65536 → j < numbers → records (fields k c j ++ rest) ≡ record { kind = k; byte1 = 0; cell = c; job = j } ∷ records rest
+pub read-fields : (k c j : ℕ) (rest : List ℕ) → c < 65536 → j < numbers → records (fields k c j ++ rest) ≡ record { kind = k; byte1 = 0; cell = c; job = j } ∷ records rest
 read-fields k c j rest hc hj = ap₂ (λ (x y : ℕ). record { kind = k; byte1 = 0; cell = x; job = y } ∷ records rest) (two-bytes c hc) (four-bytes j hj)
 
 -- the job that an event is of
-abbrev job-of-event : Event → ℕ
+abbrev pub job-of-event : Event → ℕ
 job-of-event (opens j) = j
 job-of-event (steps k j c) = j
 job-of-event (ends j) = j
@@ -182,7 +182,7 @@ no-fault h (steps write j c) t r = none-of-two 12 13 0 (test-false (le-test cell
 no-fault h (ends j) t r = ap (λ (b : Bool). cond (not b) 13 0) (test-true (has-test (open-now h) j) t)
 no-fault h (abandons j) t r = ap₂ (λ (a b : Bool). cond (not a || b) 13 0) (test-true (has-test (open-now h) j) (t .0)) (is-false (t .1))
 
-event-for : (e : Event) → event-of (request-for e .job) (want (request-for e .kind)) (request-for e .job) (request-for e .cell) ≡ e ∷ []
+pub event-for : (e : Event) → event-of (request-for e .job) (want (request-for e .kind)) (request-for e .job) (request-for e .cell) ≡ e ∷ []
 unfolding want event-of
 event-for (opens j) = refl
 event-for (steps read j c) = refl
@@ -210,7 +210,7 @@ module _ (h : History) (e : Event) (es : List Event) (t : InTurn h e) (s : Sized
   unfolding opened
   opens-here j m = subst (λ (l : List ℕ). j ∈ l) (sym (gather-append opened-by h (e ∷ es))) (Memᴰ·append-right (gather opened-by h) (Memᴰ·append-left (gather opened-by es) m))
 
-small-first : (h : History) (e : Event) (es : List Event) → InTurn h e → Sized (h ++ e ∷ es) → job-of-event e < numbers
+pub small-first : (h : History) (e : Event) (es : List Event) → InTurn h e → Sized (h ++ e ∷ es) → job-of-event e < numbers
 small-first h (opens j) es t s = s .small j (opens-here h (opens j) es t s j here)
 small-first h (steps k j c) es t s = s .small j (opened-left h (steps k j c ∷ es) (open-opened h (t .0)))
 small-first h (ends j) es t s = s .small j (opened-left h (ends j ∷ es) (open-opened h t))
@@ -233,7 +233,7 @@ read-events h n (e ∷ es) t s =
     ∙ read-events (h ++ e ∷ []) (suc n) es (t .1) s′
     ∙ ap events (append-assoc h (e ∷ []) es)
 
-log-length : (h : History) → length (log-of h) ≡ 8 * length h
+pub log-length : (h : History) → length (log-of h) ≡ 8 * length h
 log-length [] = refl
 log-length (opens j ∷ h) = let q = log-length h in omega arith
 log-length (steps k j c ∷ h) = let q = log-length h in omega arith

@@ -109,11 +109,11 @@ pub record FaultKnown (bytes : List ℕ) (c p : ℕ) : Type 0 where
   pub of-the-length : c ≡ 11 → p ≡ 0
   pub place : p ≤ 4095
 
-record Code (c : ℕ) : Type 0 where
-  from : (c ≡ 0 → ⊥) → 12 ≤ c
-  upto : c ≤ 14
+pub record Code (c : ℕ) : Type 0 where
+  pub from : (c ≡ 0 → ⊥) → 12 ≤ c
+  pub upto : c ≤ 14
 
-fault-code : (h : History) (r : Request) → Code (fault-of h r)
+pub fault-code : (h : History) (r : Request) → Code (fault-of h r)
 unfolding fault-of
 fault-code h r = go (ill-formed (want (r .kind)) r) (out-of-turn h (want (r .kind)) (r .job)) (too-many h (want (r .kind)))
   where

@@ -1,0 +1,4 @@
+pub mod PutLaws
+pub mod TextLaws
+pub mod AnswerLaws
+pub mod OneAnswer

@@ -1,0 +1,4 @@
+pub mod StandLaws
+pub mod LogLaws
+pub mod AnswerLaws
+pub mod OneAnswer

@@ -1,0 +1,9 @@
+pub mod Notation
+pub mod Parse
+pub mod Answers
+pub mod Cases
+pub mod ParseLaws
+pub mod LeftOutLaws
+pub mod ReadLaws
+pub mod TextLaws
+pub mod Promises
