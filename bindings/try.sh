@@ -53,40 +53,27 @@ if [ "$failed" != 0 ]; then
   exit 1
 fi
 
+# A C program is built with what it is linked with, run, and its own count added.
+for_c() { # NAME ARCHIVE..
+  name=$1
+  shift
+  try "bindings/c/$name.c is built" cc -std=c11 $strict -O1 -g -I bindings "bindings/c/$name.c" "$@" -o "$work/$name"
+  "$work/$name" > "$work/$name.out" 2>&1
+  status=$?
+  cat "$work/$name.out"
+  count "$work/$name.out" $status
+}
+
 echo "---- C"
 try "the header by itself, as C11" cc -std=c11 $strict -fsyntax-only -x c bindings/reedtangle.h
 if command -v c++ > /dev/null; then
   try "the header by itself, as C++11" c++ -std=c++11 $strict -fsyntax-only -x c++ bindings/reedtangle.h
 fi
-try "bindings/c/night.c is built" cc -std=c11 $strict -O1 -g -I bindings bindings/c/night.c $archives -o "$work/night"
-"$work/night" > "$work/night.out" 2>&1
-status=$?
-cat "$work/night.out"
-count "$work/night.out" $status
-
-try "bindings/c/ledger.c is built" cc -std=c11 $strict -O1 -g -I bindings bindings/c/ledger.c $ledger -o "$work/ledger"
-"$work/ledger" > "$work/ledger.out" 2>&1
-status=$?
-cat "$work/ledger.out"
-count "$work/ledger.out" $status
-
-try "bindings/c/batch.c is built" cc -std=c11 $strict -O1 -g -I bindings bindings/c/batch.c $batch $archives -o "$work/batch"
-"$work/batch" > "$work/batch.out" 2>&1
-status=$?
-cat "$work/batch.out"
-count "$work/batch.out" $status
-
-try "bindings/c/notation.c is built" cc -std=c11 $strict -O1 -g -I bindings bindings/c/notation.c $notation -o "$work/notation"
-"$work/notation" > "$work/notation.out" 2>&1
-status=$?
-cat "$work/notation.out"
-count "$work/notation.out" $status
-
-try "bindings/c/small.c is built" cc -std=c11 $strict -O1 -g -I bindings bindings/c/small.c $archives -pthread -o "$work/small"
-"$work/small" > "$work/small.out" 2>&1
-status=$?
-cat "$work/small.out"
-count "$work/small.out" $status
+for_c night $archives
+for_c ledger $ledger
+for_c batch $batch $archives
+for_c notation $notation
+for_c small $archives -pthread
 
 echo "---- Rust"
 (cd bindings/rust && cargo test --offline --locked) > "$work/cargo.out" 2>&1

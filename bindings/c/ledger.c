@@ -3,23 +3,12 @@
  * another way: each word times the count of running sums that it is in. Last line: `N passed, 0 failed`; exit status 1 on a failure.
  */
 #include "reedtangle.h"
+#include "tell.h"
 
 #include <stdio.h>
 #include <string.h>
 
 enum { BLOCK = 512, ROOM = REEDTANGLE_BLOCKS_LOG_BYTES + 512 };
-
-static int passed, failed;
-
-static void tell(int good, const char *what, size_t records)
-{
-    printf("%s  %s, %zu records\n", good ? "ok  " : "FAIL", what, records);
-    if (good) {
-        passed += 1;
-    } else {
-        failed += 1;
-    }
-}
 
 static uint8_t log_bytes[32776], made[ROOM], came[ROOM], back[ROOM], hurt[ROOM];
 
@@ -81,24 +70,24 @@ int main(void)
         size_t n = sizes[s], length = 8 * n, size = make(length);
         memset(came, 0xa7, sizeof came);
         memset(back, 0xa7, sizeof back);
-        tell(is(reedtangle_write_blocks(log_bytes, length, came, ROOM), 0, size) && memcmp(came, made, size) == 0 && rest_is(came, size, ROOM, 0xa7), "the blocks are those made here", n);
-        tell(is(reedtangle_read_blocks(came, size, back, ROOM), 0, length) && memcmp(back, log_bytes, length) == 0 && rest_is(back, length, ROOM, 0xa7), "and are read back", n);
+        tell_of(is(reedtangle_write_blocks(log_bytes, length, came, ROOM), 0, size) && memcmp(came, made, size) == 0 && rest_is(came, size, ROOM, 0xa7), "the blocks are those made here", n);
+        tell_of(is(reedtangle_read_blocks(came, size, back, ROOM), 0, length) && memcmp(back, log_bytes, length) == 0 && rest_is(back, length, ROOM, 0xa7), "and are read back", n);
         memset(back, 0xa7, sizeof back);
         if (length > 0) {
-            tell(is(reedtangle_write_blocks(log_bytes, length, back, size - 1), 24, 0) && is(reedtangle_read_blocks(came, size, back, length - 1), 24, 0) && rest_is(back, 0, ROOM, 0xa7), "with a byte too little room nothing is written", n);
+            tell_of(is(reedtangle_write_blocks(log_bytes, length, back, size - 1), 24, 0) && is(reedtangle_read_blocks(came, size, back, length - 1), 24, 0) && rest_is(back, 0, ROOM, 0xa7), "with a byte too little room nothing is written", n);
             int found = 1;
             for (size_t at = 0; at < size; at += 1 + size / 700) {
                 memcpy(hurt, came, size);
                 hurt[at] ^= 16;
                 found = found && is(reedtangle_read_blocks(hurt, size, back, ROOM), 22, at / BLOCK) && rest_is(back, 0, ROOM, 0xa7);
             }
-            tell(found, "a changed byte is found in its block", n);
+            tell_of(found, "a changed byte is found in its block", n);
         }
-        tell(is(reedtangle_write_blocks(log_bytes, length + 4, back, ROOM), 11, 0) && is(reedtangle_read_blocks(came, size + 8, back, ROOM), 21, 0), "lengths that are no log and no run", n);
+        tell_of(is(reedtangle_write_blocks(log_bytes, length + 4, back, ROOM), 11, 0) && is(reedtangle_read_blocks(came, size + 8, back, ROOM), 21, 0), "lengths that are no log and no run", n);
     }
-    tell(is(reedtangle_write_blocks(log_bytes, 32776, back, ROOM), 11, 0) && rest_is(back, 0, ROOM, 0xa7), "a log too long", 4097);
+    tell_of(is(reedtangle_write_blocks(log_bytes, 32776, back, ROOM), 11, 0) && rest_is(back, 0, ROOM, 0xa7), "a log too long", 4097);
     memset(hurt, 0, BLOCK);
-    tell(is(reedtangle_read_blocks(hurt, BLOCK, back, ROOM), 23, 0), "a block of zeros: its sums are right and it has no record", 0);
+    tell_of(is(reedtangle_read_blocks(hurt, BLOCK, back, ROOM), 23, 0), "a block of zeros: its sums are right and it has no record", 0);
     printf("%d passed, %d failed\n", passed, failed);
     return failed != 0;
 }

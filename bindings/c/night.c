@@ -4,24 +4,13 @@
  * orders written here. Each line of output is one thing that was compared. Last line: `N passed, 0 failed`; exit status 1 on a failure.
  */
 #include "reedtangle.h"
+#include "tell.h"
 
 #include <inttypes.h>
 #include <stdio.h>
 #include <string.h>
 
 /* ---- what was compared */
-
-static int passed, failed;
-
-static void tell(int good, const char *what)
-{
-    printf("%s  %s\n", good ? "ok  " : "FAIL", what);
-    if (good) {
-        passed += 1;
-    } else {
-        failed += 1;
-    }
-}
 
 /* A code with a job or a place: the one expected. */
 static int both_are(uint32_t code, uint32_t number, uint32_t want_code, uint32_t want_number)

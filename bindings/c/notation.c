@@ -4,23 +4,12 @@
  * line: `N passed, 0 failed`; exit status 1 on a failure.
  */
 #include "reedtangle.h"
+#include "tell.h"
 
 #include <stdio.h>
 #include <string.h>
 
 enum { ROOM = REEDTANGLE_TEXT_BYTES + 64 };
-
-static int passed, failed;
-
-static void tell(int good, const char *what, size_t records)
-{
-    printf("%s  %s, %zu records\n", good ? "ok  " : "FAIL", what, records);
-    if (good) {
-        passed += 1;
-    } else {
-        failed += 1;
-    }
-}
 
 static uint8_t log_bytes[REEDTANGLE_LOG_BYTES + 8], kept[REEDTANGLE_LOG_BYTES], came[ROOM], back[ROOM], hurt[ROOM];
 static char text[ROOM];
@@ -129,14 +118,14 @@ int main(void)
         int good = 1, cut = 1;
         make(n);
         step = 1 + text_length / 2000;
-        tell(export_is(length, ROOM, 0, text_length) && memcmp(came, text, text_length) == 0 && rest_is(came, text_length, 0xa7), "the text is the one written here", n);
-        tell(export_is(length, text_length, 0, text_length) && memcmp(came, text, text_length) == 0 && rest_is(came, text_length, 0xa7), "and fits into just its room", n);
-        tell(import_is(text, text_length, ROOM, 0, kept_length) && memcmp(back, kept, kept_length) == 0 && rest_is(back, kept_length, 0xa7), "its log is the one without the abandoned jobs", n);
-        tell(import_is(text, text_length, kept_length, 0, kept_length) && memcmp(back, kept, kept_length) == 0 && rest_is(back, kept_length, 0xa7), "and fits into just its room", n);
+        tell_of(export_is(length, ROOM, 0, text_length) && memcmp(came, text, text_length) == 0 && rest_is(came, text_length, 0xa7), "the text is the one written here", n);
+        tell_of(export_is(length, text_length, 0, text_length) && memcmp(came, text, text_length) == 0 && rest_is(came, text_length, 0xa7), "and fits into just its room", n);
+        tell_of(import_is(text, text_length, ROOM, 0, kept_length) && memcmp(back, kept, kept_length) == 0 && rest_is(back, kept_length, 0xa7), "its log is the one without the abandoned jobs", n);
+        tell_of(import_is(text, text_length, kept_length, 0, kept_length) && memcmp(back, kept, kept_length) == 0 && rest_is(back, kept_length, 0xa7), "and fits into just its room", n);
         memcpy(log_bytes, kept, kept_length);
-        tell(export_is(kept_length, ROOM, 0, text_length) && memcmp(came, text, text_length) == 0, "and has the same text", n);
+        tell_of(export_is(kept_length, ROOM, 0, text_length) && memcmp(came, text, text_length) == 0, "and has the same text", n);
         if (text_length > 0) {
-            tell(export_is(kept_length, text_length - 1, 24, 0) && import_is(text, text_length, kept_length - 1, 24, 0) && export_is(kept_length, 0, 24, 0) && import_is(text, text_length, 0, 24, 0), "with a byte too little room nothing is written", n);
+            tell_of(export_is(kept_length, text_length - 1, 24, 0) && import_is(text, text_length, kept_length - 1, 24, 0) && export_is(kept_length, 0, 24, 0) && import_is(text, text_length, 0, 24, 0), "with a byte too little room nothing is written", n);
         }
         for (size_t at = 0; at < text_length; at += step) {
             static const uint8_t never[] = {0, '\n', '/', ':', 'A', 'x', 0x80, 0xff};
@@ -150,12 +139,12 @@ int main(void)
                 cut = cut && reedtangle_import((const uint8_t *)text, at, back, ROOM, &place) != 26;
             }
         }
-        tell(good, "a byte that stands nowhere is found, at each place", n);
-        tell(cut, "the text is cut at each length", n);
+        tell_of(good, "a byte that stands nowhere is found, at each place", n);
+        tell_of(cut, "the text is cut at each length", n);
         if (n > 0) {
-            tell(export_is(kept_length + 4, ROOM, 11, 0) && export_is(REEDTANGLE_LOG_BYTES + 8, ROOM, 11, 0), "lengths that are no log", n);
+            tell_of(export_is(kept_length + 4, ROOM, 11, 0) && export_is(REEDTANGLE_LOG_BYTES + 8, ROOM, 11, 0), "lengths that are no log", n);
             log_bytes[1] = 1;
-            tell(export_is(kept_length, 0, 12, 0), "a record with a wrong byte 1, before the room is looked at", n);
+            tell_of(export_is(kept_length, 0, 12, 0), "a record with a wrong byte 1, before the room is looked at", n);
         }
     }
 
@@ -173,15 +162,15 @@ int main(void)
             good = good && (may ? code != 26 || place == at + 1 : code == 26 && place == at);
         }
     }
-    tell(good, "each byte at each place of a text, up to there", 2);
+    tell_of(good, "each byte at each place of a text, up to there", 2);
 
-    tell(import_is("B1 B3 R3[0] W1[0] E1 B2 R2[1] E2 W3[1] E3", 41, ROOM, 13, 5), "h2 of the report, whose job 2 opens after job 3", 10);
-    tell(import_is("B1 R1[256]", 10, ROOM, 12, 1) && import_is("B1 R1[65535]", 12, 0, 12, 1) && import_is("B1 R1[65536]", 12, ROOM, 26, 10), "cells 256, 65,535 and 65,536", 2);
-    tell(import_is("B4294967295", 11, 8, 0, 8) && import_is("B4294967296", 11, 8, 26, 10), "jobs 4,294,967,295 and 4,294,967,296", 1);
+    tell_of(import_is("B1 B3 R3[0] W1[0] E1 B2 R2[1] E2 W3[1] E3", 41, ROOM, 13, 5), "h2 of the report, whose job 2 opens after job 3", 10);
+    tell_of(import_is("B1 R1[256]", 10, ROOM, 12, 1) && import_is("B1 R1[65535]", 12, 0, 12, 1) && import_is("B1 R1[65536]", 12, ROOM, 26, 10), "cells 256, 65,535 and 65,536", 2);
+    tell_of(import_is("B4294967295", 11, 8, 0, 8) && import_is("B4294967296", 11, 8, 26, 10), "jobs 4,294,967,295 and 4,294,967,296", 1);
     for (int i = 0; i < 4097; i++) {
         memcpy(hurt + 3 * i, "E9 ", 3);
     }
-    tell(import_is(hurt, 3 * 4097 - 1, 0, 11, 0) && import_is(hurt, 3 * 4096 - 1, 0, 13, 0) && import_is(hurt, 3 * 4097, 0, 26, 3 * 4097), "4,097 symbols, 4,096, and stopping short", 4097);
+    tell_of(import_is(hurt, 3 * 4097 - 1, 0, 11, 0) && import_is(hurt, 3 * 4096 - 1, 0, 13, 0) && import_is(hurt, 3 * 4097, 0, 26, 3 * 4097), "4,097 symbols, 4,096, and stopping short", 4097);
     printf("%d passed, %d failed\n", passed, failed);
     return failed != 0;
 }

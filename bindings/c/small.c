@@ -6,6 +6,7 @@
  */
 #define _GNU_SOURCE
 #include "reedtangle.h"
+#include "tell.h"
 
 #include <inttypes.h>
 #include <pthread.h>
@@ -15,18 +16,6 @@
 #include <unistd.h>
 
 enum { STACK = 16384, REQUESTS = 20000 };
-
-static int passed, failed;
-
-static void tell(int good, const char *what)
-{
-    printf("%s  %s\n", good ? "ok  " : "FAIL", what);
-    if (good) {
-        passed += 1;
-    } else {
-        failed += 1;
-    }
-}
 
 /* ---- requests: seeded, so that every run has the same */
 
