@@ -1,7 +1,2 @@
-pub mod SearchLaws
-pub mod SetLaws
-pub mod ClashLaws
-pub mod PastLaws
-pub mod RequestLaws
 pub mod ReplayLaws
 pub mod OneAnswer

@@ -1,8 +1,8 @@
 -- Each contract of the crate's public functions leaves one result: two results that meet it are equal. A theorem for each function, named after it, of the
--- contract itself: `Post` is what Rattle reads of the function's `ensures`. For the step in place the three arrays at exit are equal too.
+-- contract itself: `Post` is what Rattle reads of the function's `ensures`.
 --
 -- A contract gives a part of the result, as the reply that an answer is numbered and the state that the arrays make, from which the whole can be made
--- again (`one-part`). For an answer that is so since `numbered` can be undone (`answer-back`).
+-- again (`one-part` of `slots`, which has the answers too).
 -- Assumes nothing.
 use mathlib.Core.Path.{_≡_, refl, sym, ap, _∙_}
 use mathlib.Core.Bool.{cond}
@@ -13,27 +13,18 @@ use borrow.Fn.Kinds.{Dens, resT, endedOf}
 use denote.Ref.{now}
 use denote.Triple.Clauses.{AtExit}
 use Rattle.cells.proofs.OneAnswer.{One}
-use Rattle.history.specs.Replies.{Reply}
+use Rattle.slots.proofs.OneAnswer.{one-part, one-answer}
 use Rattle.held.specs.Held.{Held}
 use Prim.Native.Nat.{ℕ}
-use Rattle.arbiter.specs.Lent.{lent, numbered}
+use Rattle.slots.specs.Lent.{lent}
 use Rattle.arbiter.specs.Replay.{Written, told}
 use Rattle.arbiter.specs.declared.Replayed.{Replayed}
 use Rattle.arbiter.specs.declared.Replayed.the-variants.{Done, NoRoom}
-use Rattle.arbiter.specs.declared.JobNumber.{JobNumber}
-use Rattle.arbiter.specs.declared.Answer.{Answer}
-use Rattle.arbiter.specs.declared.Answer.the-variants.{Granted, Malformed, NoCell, NotOpen, HasWritten, Full, Spent, Circle}
 use Rattle.arbiter.specs.declared.State.{State}
-use Rattle.arbiter.proofs.Answer.code.Kinds as code-kinds
-use Rattle.arbiter.proofs.Answer.code.Reads as code-reads
-use Rattle.arbiter.proofs.Answer.job.Kinds as job-kinds
-use Rattle.arbiter.proofs.Answer.job.Reads as job-reads
 use Rattle.arbiter.proofs.State.fresh.Kinds as fresh-kinds
 use Rattle.arbiter.proofs.State.fresh.Reads as fresh-reads
 use Rattle.arbiter.proofs.State.step.Kinds as step-kinds
 use Rattle.arbiter.proofs.State.step.Reads as step-reads
-use Rattle.arbiter.proofs.step_in_place.Kinds as in-place-kinds
-use Rattle.arbiter.proofs.step_in_place.Reads as in-place-reads
 use Rattle.arbiter.proofs.Replayed.code.Kinds as replayed-code-kinds
 use Rattle.arbiter.proofs.Replayed.code.Reads as replayed-code-reads
 use Rattle.arbiter.proofs.Replayed.place.Kinds as replayed-place-kinds
@@ -48,39 +39,6 @@ use Rattle.arbiter.proofs.reedtangle_step.Kinds as export-step-kinds
 use Rattle.arbiter.proofs.reedtangle_step.Reads as export-step-reads
 use Rattle.arbiter.proofs.reedtangle_fresh.Kinds as export-fresh-kinds
 use Rattle.arbiter.proofs.reedtangle_fresh.Reads as export-fresh-reads
-
-one-part : {R X : Type 0} (part : R → X) (whole : X → R) → ((r : R) → whole (part r) ≡ r) → {v : X} (r s : R) → part r ≡ v → part s ≡ v → r ≡ s
-one-part part whole back r s p q = sym (back r) ∙ ap whole (p ∙ sym q) ∙ back s
-
--- ---- answers
-
--- the answer of a reply
-answer-of : Reply → Answer
-answer-of r =
-    let n = r .code in
-    cond (eqb n 0) (Granted (record { 0 = r .job }))
-    (cond (eqb n 1) Malformed (cond (eqb n 2) NoCell (cond (eqb n 3) NotOpen (cond (eqb n 4) HasWritten (cond (eqb n 5) Full (cond (eqb n 6) Spent Circle))))))
-
-answer-back : (a : Answer) → answer-of (numbered a) ≡ a
-unfolding answer-of
-answer-back (Granted j) = refl
-answer-back Malformed = refl
-answer-back NoCell = refl
-answer-back NotOpen = refl
-answer-back HasWritten = refl
-answer-back Full = refl
-answer-back Spent = refl
-answer-back Circle = refl
-
--- no two answers have the same number
-one-answer : {v : Reply} (a b : Answer) → numbered a ≡ v → numbered b ≡ v → a ≡ b
-one-answer = one-part numbered answer-of answer-back
-
-pub one-code : One 0 code-kinds.ps code-kinds.r code-reads.Post
-one-code κs a x y s t p q = p ∙ sym q
-
-pub one-job : One 0 job-kinds.ps job-kinds.r job-reads.Post
-one-job κs a x y s t p q = one-part (λ (r : JobNumber). r .0) (λ n. record { 0 = n }) (λ r. refl) x y p q
 
 -- ---- states
 
@@ -102,17 +60,6 @@ one-step κs a x y s t p q =
     let answer = one-answer (x .answer) (y .answer) (p .0) (q .0) in
     let state = one-state (x .state) (y .state) (p .1) (q .1) in
     λ i. record { state = state i; answer = answer i }
-
--- the step in place: what it returns, and the three arrays at exit, which are its third, fourth and fifth parameter
-pub one-step-in-place : (κs : Lfts 3) (a : Dens κs in-place-kinds.ps) (x y : resT in-place-kinds.r κs .Denot)
-    (s t : AtExit (endedOf 3 in-place-kinds.ps in-place-kinds.r) κs)
-    → in-place-reads.Post κs a x s
-    → in-place-reads.Post κs a y t
-    → (x ≡ y) × (now (s .1 .1 .0) ≡ now (t .1 .1 .0)) × (now (s .1 .1 .1 .0) ≡ now (t .1 .1 .1 .0)) × (now (s .1 .1 .1 .1 .0) ≡ now (t .1 .1 .1 .1 .0))
-one-step-in-place κs a x y s t p q =
-    let answer = one-answer (x .answer) (y .answer) (p .answered) (q .answered) in
-    let left = p .left ∙ sym (q .left) in
-    (λ i. record { next = left i .next; free = left i .free; answer = answer i }, λ i. left i .numbers, λ i. left i .leads, λ i. left i .sets)
 
 -- ---- runs of requests
 

@@ -1,26 +1,39 @@
--- What the proof of `replay` needs beyond the contracts of the functions that it calls.
+-- What the proofs of the arbiter need beyond the contracts of the functions that it calls.
 --
--- First a list after one run of stores (`Stored`), and what is told of a replay. Then the loop (`Replaying`): the bytes of all replies are those
--- written so far and those of the answers that the state will give to the records that are left, so that with none left all are written. Last
--- one request in one number, for `reedtangle_step`.
+-- First the state with no job (`fresh-law`), a list after one run of stores (`Stored`), and what is told of a replay. Then the loop (`Replaying`): the bytes of
+-- all replies are those written so far and those of the answers that the state will give to the records that are left, so that with none left all are
+-- written. Last one request in one number, for `reedtangle_step`.
 -- Assumes nothing.
 use mathlib.Core.Path.{_≡_, refl, sym, ap, ap₂, _∙_}
 use mathlib.Core.List.{List, [], _∷_, _++_, append-nil, append-assoc}
-use Prim.Native.Nat.{ℕ, suc, _+_, _*_, _/_, _≤_, _<_}
+use Prim.Native.Nat.{ℕ, zero, suc, _+_, _*_, _/_, _≤_, _<_}
 use native.Mathlib.Omega.{arith}
-use lib.ListN.{length, set, take, drop, length-append, length-drop, take-append-drop}
+use lib.ListN.{length, replicate, set, take, drop, length-append, length-drop, take-append-drop}
 use lib.Seq.{length-take-le, take-at, drop-at, drop-drop, sets-eq}
 use borrow.Author.Tests.{lt-ltb, le-ltb}
+use Rattle.marks.specs.Marks.{tab}
+use Rattle.marks.specs.MarkLaws.{tab-suc}
 use Rattle.history.specs.Formats.{bytes-of, request-of, records, answer-bytes}
 use Rattle.history.specs.RecordLaws.{first-record, no-record}
 use Rattle.history.specs.Replies.{Reply, Request, replies}
 use Rattle.held.specs.Held.{Held, fresh-held, answer-to, after, answers}
 use Rattle.held.specs.HeldExact.{held-exact}
-use Rattle.arbiter.specs.Lent.{lent, numbered, Steps}
+use Rattle.slots.specs.Lent.{lent, numbered, Steps}
+use Rattle.slots.specs.declared.Moved.{Moved}
+use Rattle.slots.proofs.RequestLaws.{lent-same}
 use Rattle.arbiter.specs.Replay.{replayed, told, packed}
-use Rattle.arbiter.specs.declared.Moved.{Moved}
 use Rattle.arbiter.specs.declared.Replayed.{Replayed}
 use Rattle.arbiter.specs.declared.Replayed.the-variants.{Done, NoRoom}
+
+-- ---- no job
+
+tab-const : (n x : ℕ) → replicate n x ≡ tab n (λ i. x)
+tab-const zero x = refl
+tab-const (suc n) x = ap (λ (l : List ℕ). x ∷ l) (tab-const n x) ∙ sym (tab-suc n (λ i. x))
+
+pub fresh-law : (first : ℕ) → lent first 4294967295 (replicate 32 0) (replicate 32 0) (replicate 512 0) ≡ fresh-held first
+unfolding fresh-held
+fresh-law first = lent-same refl refl (tab-const 32 0) (tab-const 32 0) (tab-const 512 0)
 
 -- ---- a run of stores
 

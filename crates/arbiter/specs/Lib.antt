@@ -1,3 +1,1 @@
-pub mod Lent
-pub mod Rows
 pub mod Replay

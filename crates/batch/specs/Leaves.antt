@@ -8,7 +8,7 @@ use Prim.Native.Nat.{ℕ}
 use lib.Dec.{eqb}
 use Rattle.history.specs.Replies.{Request}
 use Rattle.held.specs.Held.{Held, answer-to, after, answers, after-all}
-use Rattle.arbiter.specs.Lent.{lent}
+use Rattle.slots.specs.Lent.{lent}
 use Rattle.batch.specs.Batch.{Verdict, verdict, item-code, codes, first-refused, batch, batch-leaves}
 use Rattle.batch.specs.declared.Batched.{Batched}
 use Rattle.batch.specs.declared.Batched.the-variants.{Granted, Malformed, NoCell, NotOpen, Circle, Length}

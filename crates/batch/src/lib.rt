@@ -4,10 +4,10 @@ ghost use mathlib.Core.Path.{_≡_};
 ghost use Prim.Native.Nat.{_+_, _≤_};
 ghost use lib.ListN.{length, drop};
 ghost use Rattle.history.specs.Formats.{records, request-of};
-ghost use Rattle.arbiter.specs.Lent.{lent};
+ghost use Rattle.slots.specs.Lent.{lent};
 ghost use Rattle.batch.specs.Batch.{verdict, batch, batch-leaves, packed};
 ghost use Rattle.batch.specs.Leaves.{numbered, Refused, Takes, Runs, Batches};
-use arbiter::Answer;
+use slots::Answer;
 
 // What a batch answers: a grant with the count of its items, or the refusal of its first item that is refused, with that item's place; or that its length is wrong.
 pub enum Batched {
@@ -80,7 +80,7 @@ fn step_item(
     let kind = item[0];
     match kind {
         2 | 3 => {
-            let m = arbiter::step_in_place(next, free, numbers, leads, sets, item);
+            let m = slots::step_in_place(next, free, numbers, leads, sets, item);
             let answer = m.answer;
             answer.code()
         }

@@ -1,4 +1,4 @@
--- What a reading gives, by its answer; what is told of a table of jobs; and the verdict by its ways out. The size of a log that is read, and the code and place of its fault, are in verdicts (SizeLaws).
+-- What is told of a table of jobs, and the verdict by its ways out. The size of a log that is read, and the code and place of its fault, are in verdicts (SizeLaws).
 -- Assumes nothing.
 use mathlib.Core.Path.{_≡_, refl, sym, ap, _∙_, subst}
 use mathlib.Core.Bool.{Bool, true, false, cond}
@@ -18,9 +18,7 @@ use Rattle.tallies.specs.Jobs.{Jobs as Table}
 use Rattle.tallies.specs.Places.{Placed, found-at}
 use Rattle.tallies.specs.Counts.{kept-below, unplaced}
 use Rattle.tallies.specs.CountLaws.{unplaced-one, Counting, kept-told}
-use Rattle.checks.specs.Checks.{Reads, kept-as, Keeps}
-use Rattle.checks.specs.declared.Read.{Read}
-use Rattle.checks.specs.declared.Read.the-variants.{Fault, Jobs}
+use Rattle.checks.specs.Checks.{kept-as, Keeps}
 use Rattle.checks.specs.declared.Kept.{Kept}
 use Rattle.checks.specs.declared.Kept.the-variants.{Missing, All}
 
@@ -31,15 +29,6 @@ found-some {r} {n} q = ap (λ (b : Bool). cond b (some r) none) (lt-ltb r n q)
 
 pub found-none : {r n : ℕ} → n ≤ r → found-at r n ≡ none
 found-none {r} {n} q = ap (λ (b : Bool). cond b (some r) none) (le-ltb r n q)
-
--- ---- what a reading gives
-
-module _ (bytes numbers states told : List ℕ) where
-  pub read-fault : {r : Read} {c p : ℕ} → r ≡ Fault c p → Reads bytes r numbers states told → read-log bytes ≡ faulty c p
-  read-fault e x = subst (λ (r : Read). Reads bytes r numbers states told) e x
-
-  pub read-jobs : {r : Read} {n : ℕ} → r ≡ Jobs n → Reads bytes r numbers states told → Reads bytes (Jobs n) numbers states told
-  read-jobs e x = subst (λ (r : Read). Reads bytes r numbers states told) e x
 
 -- ---- what is told of a table of jobs
 

@@ -1,3 +1,2 @@
-pub mod ReadLaws
 pub mod CheckLaws
 pub mod OneAnswer

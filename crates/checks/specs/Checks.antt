@@ -1,21 +1,16 @@
--- What the contracts of the checker say: the code and place of each answer, what the reading of a log leaves, and what is told of a table of jobs.
+-- What the contracts of the checker say: the code and place of each answer, and what is told of a table of jobs.
 -- Assumes nothing.
 use mathlib.Core.Path.{_≡_}
 use mathlib.Core.Bool.{true, false, cond}
 use mathlib.Core.List.{List}
 use Prim.Native.Nat.{ℕ}
 use lib.Dec.{leb}
-use lib.ListN.{length, replicate}
+use lib.ListN.{length}
 use Rattle.history.specs.Events.{History, kept}
-use Rattle.history.specs.Replies.{Request}
-use Rattle.verdicts.specs.Logs.{faulty, events, read-log}
 use Rattle.verdicts.specs.Verdicts.{Verdict, verdict, missing}
-use Rattle.tallies.specs.Jobs.{Taken}
 use Rattle.tallies.specs.Counts.{kept-below, unplaced}
 use Rattle.checks.specs.declared.Checked.{Checked}
 use Rattle.checks.specs.declared.Checked.the-variants.{Accepted, Length, Form, Turn, TooMany, Entry, Backward}
-use Rattle.checks.specs.declared.Read.{Read}
-use Rattle.checks.specs.declared.Read.the-variants.{Fault, Jobs}
 use Rattle.checks.specs.declared.Kept.{Kept}
 use Rattle.checks.specs.declared.Kept.the-variants.{Missing, All}
 
@@ -28,19 +23,6 @@ numbered (Turn p) = verdict 13 p
 numbered (TooMany p) = verdict 14 p
 numbered (Entry p) = verdict 15 p
 numbered (Backward p) = verdict 16 p
-
-abbrev pub request : ℕ → ℕ → ℕ → ℕ → Request
-request k b c j = record { kind = k; byte1 = b; cell = c; job = j }
-
--- the log is faulty, or the lists tell of its events
-abbrev pub Reads : List ℕ → Read → List ℕ → List ℕ → List ℕ → Type 0
-Reads bytes (Fault c p) numbers states told = read-log bytes ≡ faulty c p
-Reads bytes (Jobs n) numbers states told = (h : History) × (read-log bytes ≡ events h) × Taken h (length h) numbers states told n
-
--- and of a faulty log the lists are blank
-abbrev pub Cleared : Read → List ℕ → List ℕ → List ℕ → Type 0
-Cleared (Fault c p) numbers states told = (numbers ≡ replicate 512 0) × (states ≡ replicate 512 0) × (told ≡ replicate 4096 0)
-Cleared (Jobs n) numbers states told = Unit {0}
 
 -- of the first so many jobs of a table, which has 512: has a kept one no place, and how many are kept?
 abbrev pub kept-as : List ℕ → List ℕ → ℕ → Kept

@@ -1,18 +1,17 @@
-// The reading of a log into a table of its jobs, and the checker of a proposed order.
+// The checker of a proposed order. The log is read in `logs`.
 ghost use mathlib.Core.Path.{_≡_};
 ghost use mathlib.Core.Bool.{false, cond};
 ghost use mathlib.Core.Option.{none};
 ghost use mathlib.Core.List.{List, []};
 ghost use Prim.Native.Nat.{ℕ, _≤_, _<_, max};
 ghost use lib.Dec.{leb};
-ghost use lib.ListN.{length, replicate};
+ghost use lib.ListN.{length};
 ghost use Rattle.history.specs.Events.{History, kept, kept-steps};
 ghost use Rattle.verdicts.specs.Verdicts.{first-bad, missing, first-backward, check};
-ghost use Rattle.tallies.specs.Jobs.{Padded, Rises, Finds, Jobs, Blank, Taken, Takes};
+ghost use Rattle.tallies.specs.Jobs.{Jobs, Blank, Taken};
 ghost use Rattle.tallies.specs.Places.{Placed, found-at, stands-low};
-ghost use Rattle.checks.specs.Checks.{numbered, request, Reads, Cleared, kept-as};
-use reader::Next;
-use reader::Record;
+ghost use Rattle.checks.specs.Checks.{numbered, kept-as};
+use logs::Read;
 
 // What the checker answers: the count of kept jobs, or one of the refusals with its place.
 pub enum Checked {
@@ -57,321 +56,6 @@ impl Checked {
     }
 }
 
-// ---- the jobs of a log
-
-// How far a search goes up: `half` where the number is at most the job's, and else not at all. The quotient is 1 or 0: of a test the compiler makes a branch,
-// which is mispredicted every other time.
-fn go_up(half: usize, number: u32, job: u32) -> usize
-    ensures { λ r. ⌜ (r ≤ half) × (r ≡ cond (leb number job) half 0) ⌝ }
-{
-    half * ((4294967296 + job as usize - number as usize) / 4294967296)
-}
-
-// Where the job stands among the first `count` numbers, which rise; `count` where it does not.
-fn halve(numbers: &[u32; 512], count: usize, job: u32) -> usize
-    requires { ⌜ count ≤ 512 ⌝ }
-    ensures { λ r. ⌜ (r ≤ count) × (Rises count (now (numbers .entry)) → Finds count (now (numbers .entry)) job r) ⌝ }
-{
-    let all = &numbers[..];
-    let mut low: usize = 0;
-    let mut size: usize = count;
-    while 1 < size {
-        let half = size / 2;
-        low += go_up(half, all[low + half], job);
-        size -= half;
-    }
-    if low < count {
-        if all[low] == job {
-            return low;
-        }
-    }
-    count
-}
-
-// The same. The numbers of a log that starts at a fresh state stand side by side, and then the place is a difference.
-fn find(numbers: &[u32; 512], count: usize, job: u32) -> usize
-    requires { ⌜ count ≤ 512 ⌝ }
-    ensures { λ r. ⌜ (r ≤ count) × (Rises count (now (numbers .entry)) → Finds count (now (numbers .entry)) job r) ⌝ }
-{
-    let all = &numbers[..];
-    let first = all[0];
-    if first <= job {
-        let guess = (job - first) as usize;
-        if guess < count {
-            if all[guess] == job {
-                return guess;
-            }
-        }
-    }
-    halve(numbers, count, job)
-}
-
-// An open, a read, a write or an end is told as its job's place times 514, plus its row, plus 1; an abandon as 0. The rows are the reads of cells 0 to 255, then the
-// writes of those, then all opens (512) and all ends (513).
-
-// What an open leaves: its fault, and how many jobs there are then.
-struct Took {
-    code: u32,
-    count: usize,
-}
-
-fn take_open(
-    job: u32,
-    cell: u32,
-    numbers: &mut [u32; 512],
-    states: &mut [u8; 512],
-    told: &mut [u32; 4096],
-    count: usize,
-    place: usize,
-) -> Took
-    requires { ⌜ (count ≤ 512) × (place < 4096) ⌝ }
-    ensures { λ r. ⌜ (r .count ≤ 512) × ((h : History) → Taken h place (now (numbers .entry)) (now (states .entry)) (now (told .entry)) count
-        → Takes h place (request 1 0 cell job) (r .code) (now (numbers .exit)) (now (states .exit)) (now (told .exit)) (r .count)) ⌝ }
-{
-    let all = &mut numbers[..];
-    let stand = &mut states[..];
-    let steps = &mut told[..];
-    if cell != 0 {
-        return Took {
-            code: 12,
-            count: count,
-        };
-    }
-    if count != 0 {
-        if job <= all[count - 1] {
-            return Took {
-                code: 13,
-                count: count,
-            };
-        }
-    }
-    if 512 <= count {
-        return Took {
-            code: 14,
-            count: count,
-        };
-    }
-    all[count] = job;
-    stand[count] = 1;
-    steps[place] = (count as u32) * 514 + 513;
-    Took {
-        code: 0,
-        count: count + 1,
-    }
-}
-
-// A read or a write: its fault.
-fn take_step(
-    write: bool,
-    job: u32,
-    cell: u32,
-    numbers: &[u32; 512],
-    states: &mut [u8; 512],
-    told: &mut [u32; 4096],
-    count: usize,
-    place: usize,
-) -> u32
-    requires { ⌜ (count ≤ 512) × (place < 4096) ⌝ }
-    ensures { λ r. ⌜ ((h : History) → Taken h place (now (numbers .entry)) (now (states .entry)) (now (told .entry)) count
-        → Takes h place (request (cond write 3 2) 0 cell job) r (now (numbers .entry)) (now (states .exit)) (now (told .exit)) count) ⌝ }
-{
-    let stand = &mut states[..];
-    let steps = &mut told[..];
-    if 256 <= cell {
-        return 12;
-    }
-    let i = find(numbers, count, job);
-    if i == count {
-        return 13;
-    }
-    if 2 < stand[i] {
-        return 13;
-    }
-    let mut step = (i as u32) * 514 + cell + 1;
-    if write {
-        stand[i] = 2;
-        step += 256;
-    }
-    steps[place] = step;
-    0
-}
-
-// An end: its fault.
-fn take_end(
-    job: u32,
-    cell: u32,
-    numbers: &[u32; 512],
-    states: &mut [u8; 512],
-    told: &mut [u32; 4096],
-    count: usize,
-    place: usize,
-) -> u32
-    requires { ⌜ (count ≤ 512) × (place < 4096) ⌝ }
-    ensures { λ r. ⌜ ((h : History) → Taken h place (now (numbers .entry)) (now (states .entry)) (now (told .entry)) count
-        → Takes h place (request 4 0 cell job) r (now (numbers .entry)) (now (states .exit)) (now (told .exit)) count) ⌝ }
-{
-    let stand = &mut states[..];
-    let steps = &mut told[..];
-    if cell != 0 {
-        return 12;
-    }
-    let i = find(numbers, count, job);
-    if i == count {
-        return 13;
-    }
-    if 2 < stand[i] {
-        return 13;
-    }
-    stand[i] = 3;
-    steps[place] = (i as u32) * 514 + 514;
-    0
-}
-
-// An abandon: its fault.
-fn take_abandon(
-    job: u32,
-    cell: u32,
-    numbers: &[u32; 512],
-    states: &mut [u8; 512],
-    count: usize,
-) -> u32
-    requires { ⌜ count ≤ 512 ⌝ }
-    ensures { λ r. ⌜ ((h : History) (n : ℕ) (told : List ℕ) → Taken h n (now (numbers .entry)) (now (states .entry)) told count
-        → Takes h n (request 5 0 cell job) r (now (numbers .entry)) (now (states .exit)) told count) ⌝ }
-{
-    let stand = &mut states[..];
-    if cell != 0 {
-        return 12;
-    }
-    let i = find(numbers, count, job);
-    if i == count {
-        return 13;
-    }
-    if stand[i] != 1 {
-        return 13;
-    }
-    stand[i] = 4;
-    0
-}
-
-// A record: its fault, and how many jobs there are then.
-fn take_record(
-    r: Record,
-    numbers: &mut [u32; 512],
-    states: &mut [u8; 512],
-    told: &mut [u32; 4096],
-    count: usize,
-    place: usize,
-) -> Took
-    requires { ⌜ (count ≤ 512) × (place < 4096) ⌝ }
-    ensures { λ t. ⌜ (t .count ≤ 512) × ((h : History) → Taken h place (now (numbers .entry)) (now (states .entry)) (now (told .entry)) count
-        → Takes h place (request (r .kind) (r .byte1) (r .cell) (r .job)) (t .code) (now (numbers .exit)) (now (states .exit)) (now (told .exit)) (t .count)) ⌝ }
-{
-    if r.byte1 != 0 {
-        return Took {
-            code: 12,
-            count: count,
-        };
-    }
-    let kind = r.kind;
-    let job = r.job;
-    let cell = r.cell;
-    match kind {
-        1 => take_open(job, cell, numbers, states, told, count, place),
-        2 => Took {
-            code: take_step(false, job, cell, numbers, states, told, count, place),
-            count: count,
-        },
-        3 => Took {
-            code: take_step(true, job, cell, numbers, states, told, count, place),
-            count: count,
-        },
-        4 => Took {
-            code: take_end(job, cell, numbers, states, told, count, place),
-            count: count,
-        },
-        5 => Took {
-            code: take_abandon(job, cell, numbers, states, count),
-            count: count,
-        },
-        _ => Took {
-            code: 12,
-            count: count,
-        },
-    }
-}
-
-// What reading a log gives: the lowest fault, its code and place, or the count of jobs.
-pub enum Read {
-    Fault(u32, usize),
-    Jobs(usize),
-}
-
-// Every entry becomes 0.
-fn blank(numbers: &mut [u32; 512], states: &mut [u8; 512], told: &mut [u32; 4096])
-    ensures { λ _. ⌜ (now (numbers .exit) ≡ replicate 512 0) × (now (states .exit) ≡ replicate 512 0) × (now (told .exit) ≡ replicate 4096 0) ⌝ }
-{
-    *numbers = [0; 512];
-    *states = [0; 512];
-    *told = [0; 4096];
-}
-
-// The records of a log, into lists that are blank.
-fn read_records(
-    log: &[u8],
-    numbers: &mut [u32; 512],
-    states: &mut [u8; 512],
-    told: &mut [u32; 4096],
-) -> Read
-    ensures { λ r. ⌜ (Padded (now (numbers .entry)) 512 0 → Padded (now (states .entry)) 512 0 → Padded (now (told .entry)) 4096 0
-        → Reads (now (log .entry)) r (now (numbers .exit)) (now (states .exit)) (now (told .exit))) ⌝ }
-{
-    if log.len() % 8 != 0 {
-        return Read::Fault(11, 0);
-    }
-    if 32768 < log.len() {
-        return Read::Fault(11, 0);
-    }
-    let n = log.len() / 8;
-    let mut count: usize = 0;
-    let mut i: usize = 0;
-    while i < n {
-        match reader::next_record(log, i) {
-            Next::Record(r) => {
-                let t = take_record(r, numbers, states, told, count, i);
-                if t.code != 0 {
-                    return Read::Fault(t.code, i);
-                }
-                count = t.count;
-            }
-            Next::End => {
-                return Read::Jobs(count);
-            }
-        }
-        i += 1;
-    }
-    Read::Jobs(count)
-}
-
-// A whole log, whatever the lists held: its jobs by number and state, and its steps told (`Taken`); past those, and where it is faulty, every entry is 0.
-pub fn read_jobs(
-    log: &[u8],
-    numbers: &mut [u32; 512],
-    states: &mut [u8; 512],
-    told: &mut [u32; 4096],
-) -> Read
-    ensures { λ r. ⌜ Reads (now (log .entry)) r (now (numbers .exit)) (now (states .exit)) (now (told .exit)) × Cleared r (now (numbers .exit)) (now (states .exit)) (now (told .exit)) ⌝ }
-{
-    blank(numbers, states, told);
-    match read_records(log, numbers, states, told) {
-        Read::Fault(code, place) => {
-            blank(numbers, states, told);
-            Read::Fault(code, place)
-        }
-        Read::Jobs(count) => Read::Jobs(count),
-    }
-}
-
 // ---- the order
 
 // The places of the order's jobs, up to the first bad entry: its place, or the order's length where none is bad.
@@ -390,7 +74,7 @@ fn place_order(
     let places = &mut placed[..];
     let mut i: usize = 0;
     while i < order.len() {
-        let k = find(numbers, count, order[i]);
+        let k = logs::find_job(numbers, count, order[i]);
         if k == count {
             return i;
         }
@@ -512,7 +196,7 @@ pub fn check_order(log: &[u8], order: &[u32]) -> Checked
     let mut numbers: [u32; 512] = [0; 512];
     let mut states: [u8; 512] = [0; 512];
     let mut told: [u32; 4096] = [0; 4096];
-    match read_jobs(log, &mut numbers, &mut states, &mut told) {
+    match logs::read_jobs(log, &mut numbers, &mut states, &mut told) {
         Read::Fault(code, place) => match code {
             11 => Checked::Length,
             12 => Checked::Form(place),

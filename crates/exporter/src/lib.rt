@@ -11,7 +11,7 @@ ghost use Rattle.tallies.specs.Jobs.{Taken};
 ghost use Rattle.notation.specs.Notation.{symbol, text-of, without-abandoned};
 ghost use Rattle.notation.specs.Answers.{export};
 ghost use Rattle.exporter.specs.Exporter.{answered, event-at, gap, symbol-told, PutsMost};
-use checks::Read;
+use logs::Read;
 
 // What the exporter answers: the count of bytes of the text, or one of the refusals with its place.
 pub enum Exported {
@@ -191,7 +191,7 @@ pub fn export_log(log: &[u8], out: &mut [u8]) -> Exported
     let mut numbers: [u32; 512] = [0; 512];
     let mut states: [u8; 512] = [0; 512];
     let mut told: [u32; 4096] = [0; 4096];
-    match checks::read_jobs(log, &mut numbers, &mut states, &mut told) {
+    match logs::read_jobs(log, &mut numbers, &mut states, &mut told) {
         Read::Fault(code, place) => match code {
             11 => Exported::Length,
             12 => Exported::Form(place),

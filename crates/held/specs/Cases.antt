@@ -1,6 +1,6 @@
 -- Computed tables of the held rule: the cases of the full history (`held-cases`); histories of our own that show the slots and the order of the
--- codes (`own-histories`); states that no requests give, with the answer to a request (`made-up-answers`) and the next state (`made-up-rows`; to
--- its last word in crate `made`).
+-- codes (`own-histories`); states that no requests give, with the answer to a request (`made-up-answers`) and, for some, the next state (`made-up-rows`; of
+-- all, to the last word, in crate `made`).
 --
 -- A made-up state is written as what it means: the next number, the open slots, and for the lowest slots a row, open or not, of a number, the slots
 -- led to and the cells of the four sets; the rows of the other slots are blank.
@@ -151,7 +151,7 @@ job-zero =
     }
 
 abbrev pub tried-table : List Tried
-tried-table = all-slots ∷ lowest-taken ∷ last-number ∷ code-one ∷ codes-in-order ∷ job-zero ∷ []
+tried-table = lowest-taken ∷ all-slots ∷ last-number ∷ code-one ∷ codes-in-order ∷ job-zero ∷ []
 
 -- every history of the table is answered as written, and the jobs stand in the slots as written
 pub own-histories : (t : Tried) → t ∈ tried-table → seen t ≡ to-see t
@@ -418,10 +418,12 @@ pub made-up-answers : (m : MadeUp) → m ∈ made-up-table → answer-to (held-o
 unfolding made-up-answer
 made-up-answers m = rows made-up-answer (λ m. m .answered) (refl, (refl, (refl, (refl, (refl, (refl, (refl, (refl, (refl, (refl, (refl, (refl, (refl, (refl, (refl, (refl, (refl, (refl, tt))))))))))))))))))
 
--- and leaves the next state as written: the next number, the free slots, every number, every lead, and the words of the first six rows. No row of the
--- table uses a slot above 4. The whole 512 words are compared in crate `made` (`made-up-states`), apart, so that an edit of the rule is refused sooner
-pub made-up-rows : (m : MadeUp) → m ∈ made-up-table → first-rows (after (held-of (m .before)) (m .asked)) ≡ first-rows (held-of (m .left))
+-- the rows whose next state is compared here: those by which a wrong move is told that no answer of the tables above tells
+abbrev pub moved-table : List MadeUp
+moved-table = one-number-ended ∷ not-open-ignored ∷ open-blanks ∷ open-led-to ∷ end-hands-on ∷ []
+
+-- they leave the next state as written: the next number, the free slots, every number, every lead, and the words of the first six rows. No row of the
+-- table uses a slot above 4. All rows of the whole table are compared in crate `made` (`made-up-states`), with the whole 512 words, apart, so that an edit of the rule is refused sooner
+pub made-up-rows : (m : MadeUp) → m ∈ moved-table → first-rows (after (held-of (m .before)) (m .asked)) ≡ first-rows (held-of (m .left))
 unfolding made-up-next
-made-up-rows m =
-    rows (λ m. first-rows (made-up-next m)) (λ m. first-rows (held-of (m .left)))
-    (refl, (refl, (refl, (refl, (refl, (refl, (refl, (refl, (refl, (refl, (refl, (refl, (refl, (refl, (refl, (refl, (refl, (refl, tt))))))))))))))))))
+made-up-rows m = rows (λ m. first-rows (made-up-next m)) (λ m. first-rows (held-of (m .left))) (refl, (refl, (refl, (refl, (refl, tt)))))

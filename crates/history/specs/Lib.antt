@@ -9,7 +9,7 @@ pub mod Run
 pub mod Memory
 pub mod Tables
 pub mod Cases
-pub mod WrongBuilds
+pub mod Arbiters
 pub mod EventLaws
 pub mod CircleLaws
 pub mod TurnLaws

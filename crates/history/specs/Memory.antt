@@ -5,7 +5,7 @@
 -- which could still be abandoned. Tables of jobs that are not open are blank. Openings and ends stand in the tables as reads and writes do, on
 -- cell 0: so past has an end where the job leads to some ended job, and then it leads to every job that is opened.
 --
--- The rule is four functions (`Rule`), so that a wrong build is another rule over the same memory (WrongBuilds).
+-- The rule is four functions (`Rule`), so that a wrong build is another rule over the same memory (WrongBuilds of crate `refuted`).
 -- Assumes nothing.
 use mathlib.Core.Bool.{Bool, true, false, not, _&&_, _||_}
 use mathlib.Core.List.{List, [], _∷_, _++_}

@@ -26,7 +26,7 @@ use Rattle.history.specs.Memory.{fresh, right, move-all, held-replies}
 use Rattle.history.specs.Tables.{Tells}
 use Rattle.history.specs.Orders.{layout, Keeps, Accepted, order-of}
 use Rattle.history.specs.Run.{Program, run, start, last-write}
-use Rattle.history.specs.WrongBuilds.{Arbiter, Exact, answers, of-memory, memory-answers}
+use Rattle.history.specs.Arbiters.{Arbiter, Exact, answers, of-memory, memory-answers}
 use Rattle.history.specs.Cases.{Case, requests-of, replies-of, is-only, computed, expected, Outcome, p-table, p-cases}
 use Rattle.history.specs.EventLaws.{precedes-test}
 use Rattle.history.specs.CircleLaws.{has-circle-test}
@@ -112,8 +112,8 @@ memory-tells = tables-tell
 pub memory-exact : (first : ℕ) (rs : List Request) → held-replies right (fresh first) rs ≡ replies first rs
 memory-exact = exact
 
--- so the bounded memory is an arbiter that meets demand 2 (`Exact` of WrongBuilds), and any two that meet it give the same answers to any list of requests. WrongBuilds
--- has four sorts of arbiter that do not meet it
+-- so the bounded memory is an arbiter that meets demand 2 (`Exact` of Arbiters), and any two that meet it give the same answers to any list of requests. WrongBuilds of
+-- crate `refuted` has four sorts of arbiter that do not meet it
 pub memory-meets : Exact of-memory
 memory-meets first rs = memory-answers (fresh first) rs ∙ exact first rs
 

@@ -10,26 +10,13 @@ use borrow.Author.Tests.{eq-eqb, ne-eqb}
 use lib.Dec.{eqb}
 use lib.ListN.{length, getD, take, drop, set, length-append, drop-of-length-le}
 use lib.Seq.{length-take-le, take-at, drop-cons, sets-eq}
-use Rattle.history.specs.Events.{Event, opens, steps, ends, abandons, History}
+use Rattle.history.specs.Events.{History}
 use Rattle.verdicts.specs.Logs.{fields, record-of, log-of}
 use Rattle.notation.specs.Parse.{Stand, next, whole-at, event-at, grown, Parsed, wrong, parse-end, parse-from}
 use Rattle.importer.specs.Importer.{Fit, after-symbol, Holds}
 use Rattle.importer.proofs.StandLaws.{told}
 
 -- ---- logs
-
-record-length : (e : Event) → length (record-of e) ≡ 8
-record-length (opens j) = refl
-record-length (steps k j c) = refl
-record-length (ends j) = refl
-record-length (abandons j) = refl
-
-pub log-length : (h : History) → length (log-of h) ≡ length h * 8
-log-length [] = refl
-log-length (e ∷ h) =
-    let q = log-length h in
-    let r = record-length e in
-    let a = length-append (record-of e) (log-of h) in omega arith
 
 log-append : (h k : History) → log-of (h ++ k) ≡ log-of h ++ log-of k
 log-append [] k = refl

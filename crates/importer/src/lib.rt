@@ -9,7 +9,7 @@ ghost use Rattle.verdicts.specs.Logs.{read-log, fields};
 ghost use Rattle.notation.specs.Parse.{off, kind-of, with-cell, is-digit, goes-on, letter-next, first-next, job-next, first-cell-next, cell-next, closed-next, next, whole-at, parse-end, parse};
 ghost use Rattle.notation.specs.Answers.{imported, import};
 ghost use Rattle.importer.specs.Importer.{answered, as-read, after-symbol, Fit, Holds, Given};
-use checks::Read;
+use logs::Read;
 
 // What import answers: the count of bytes of the log, or one of the refusals with its place.
 pub enum Imported {
@@ -366,7 +366,7 @@ fn put_log(log: &[u8], out: &mut [u8]) -> Imported
     let mut numbers: [u32; 512] = [0; 512];
     let mut states: [u8; 512] = [0; 512];
     let mut told: [u32; 4096] = [0; 4096];
-    match checks::read_jobs(log, &mut numbers, &mut states, &mut told) {
+    match logs::read_jobs(log, &mut numbers, &mut states, &mut told) {
         Read::Fault(code, place) => match code {
             11 => Imported::Length,
             12 => Imported::Form(place),

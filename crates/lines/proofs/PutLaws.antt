@@ -13,9 +13,9 @@ use Rattle.text.specs.DecimalLaws.{decimal-digit, decimal-length}
 use Rattle.text.specs.Lays.{Lays}
 use Rattle.text.specs.Puts.{Puts, puts-byte, puts-then, lays-puts}
 use Rattle.history.specs.Replies.{Reply}
-use Rattle.arbiter.specs.Lent.{numbered}
-use Rattle.arbiter.specs.declared.Answer.{Answer}
-use Rattle.arbiter.specs.declared.Answer.the-variants.{Granted, Malformed, NoCell, NotOpen, HasWritten, Full, Spent, Circle}
+use Rattle.slots.specs.Lent.{numbered}
+use Rattle.slots.specs.declared.Answer.{Answer}
+use Rattle.slots.specs.declared.Answer.the-variants.{Granted, Malformed, NoCell, NotOpen, HasWritten, Full, Spent, Circle}
 use Rattle.lines.specs.Lines.{line, tail-line}
 use Rattle.lines.specs.Writes.{Starts}
 

@@ -15,8 +15,8 @@ use Rattle.history.specs.Formats.{request-of, records}
 use Rattle.history.specs.RecordLaws.{no-record, eight, next-record}
 use Rattle.history.specs.Replies.{Request, Reply}
 use Rattle.held.specs.Held.{Held, answer-to, after, answers, after-all}
-use Rattle.arbiter.specs.Lent.{lent, numbered, Steps}
-use Rattle.arbiter.specs.declared.Moved.{Moved}
+use Rattle.slots.specs.Lent.{lent, numbered, Steps}
+use Rattle.slots.specs.declared.Moved.{Moved}
 use Rattle.lines.specs.Lines.{line, lines, lines-of}
 use Rattle.lines.specs.Writes.{Writes, most-place, roomy}
 use Rattle.lines.proofs.PutLaws.{puts-starts, starts-none}

@@ -9,7 +9,7 @@ use lib.Dec.{ltb, leb}
 use lib.ListN.{length, drop}
 use Rattle.history.specs.Formats.{records}
 use Rattle.held.specs.Held.{Held, after-all}
-use Rattle.arbiter.specs.Lent.{lent}
+use Rattle.slots.specs.Lent.{lent}
 use Rattle.lines.specs.Lines.{lines-of}
 use Rattle.lines.specs.declared.Written.{Written}
 

@@ -2,11 +2,11 @@
 ghost use Prim.Native.Nat.{_+_, _≤_};
 ghost use lib.Dec.{leb};
 ghost use lib.ListN.{length};
-ghost use Rattle.arbiter.specs.Lent.{lent, numbered};
+ghost use Rattle.slots.specs.Lent.{lent, numbered};
 ghost use Rattle.text.specs.Puts.{Puts};
 ghost use Rattle.lines.specs.Lines.{line, header-line, tail-line};
 ghost use Rattle.lines.specs.Writes.{Starts, Writes};
-use arbiter::Answer;
+use slots::Answer;
 
 // What a run leaves beside the arrays: the next number, the free slots, the count of bytes written and whether there was room. Where there was not,
 // nothing moved.
@@ -124,7 +124,7 @@ pub fn lines(
             input[from + 6],
             input[from + 7],
         ];
-        let m = arbiter::step_in_place(now_next, now_free, numbers, leads, sets, request);
+        let m = slots::step_in_place(now_next, now_free, numbers, leads, sets, request);
         now_next = m.next;
         now_free = m.free;
         let answer = m.answer;

@@ -11,7 +11,7 @@ ghost use Rattle.tallies.specs.Places.{Lists};
 ghost use Rattle.tallies.specs.Marks.{mark, Put, Struck, Joined, Gained, LowestMark, Common, Preceded, KeptMarks, Settled, Only, In-word, Sorted};
 ghost use Rattle.lists.specs.Answers.{answered};
 use checks::Kept;
-use checks::Read;
+use logs::Read;
 
 // ---- marks of jobs, 512 in eight words, and rows of them
 
@@ -332,7 +332,7 @@ pub fn list_order(log: &[u8], out: &mut [u32]) -> Listed
     let mut numbers: [u32; 512] = [0; 512];
     let mut states: [u8; 512] = [0; 512];
     let mut told: [u32; 4096] = [0; 4096];
-    match checks::read_jobs(log, &mut numbers, &mut states, &mut told) {
+    match logs::read_jobs(log, &mut numbers, &mut states, &mut told) {
         Read::Fault(code, place) => match code {
             11 => Listed::Length,
             12 => Listed::Form(place),

@@ -2,7 +2,7 @@
 --
 -- In order: a number in decimal, digit by digit; the stands that a reading comes to (`Spot`), each with the bytes of the symbol so far; the moves from one to the next (`Goes`, and
 -- `Whole` where a blank comes), that `next` makes them and no other (`move`); a beginning that has been read (`Reached`), which every text of the form goes through and which can always be gone on
--- with to a text of the form; from these the two theorems; and last, for code, that the numbers of a stand are small (`held-next`).
+-- with to a text of the form; and from these the two theorems.
 -- Assumes nothing.
 use mathlib.Core.Path.{_≡_, refl, sym, ap, ap₂, subst, _∙_}
 use mathlib.Core.Logic.{_⊎_, inl, inr, ⊎-elim, _↔_}
@@ -11,17 +11,17 @@ use mathlib.Core.List.{List, [], _∷_, _++_, append-nil, append-assoc, List·Me
 use Prim.Native.Nat.{ℕ, zero, suc, _+_, _-_, _*_, _/_, _%_, _≤_, _<_}
 use native.Mathlib.Nat.{le-refl}
 use native.Mathlib.Omega.{arith}
-use lib.Dec.{ltb, eqb}
+use lib.Dec.{eqb}
 use lib.ListN.{length, take, drop, length-append}
 use lib.Seq.{take-at}
-use Rattle.graph.specs.Decide.{Decides, and-test, not-test, eq-test, le-test, lt-test, by-test, chosen, answer, test-true, test-false}
+use Rattle.graph.specs.Decide.{Decides, and-test, not-test, eq-test, le-test, lt-test, answer, test-true, test-false}
 use Rattle.graph.specs.Lists.{_∈_, here, later}
 use Rattle.text.specs.Decimal.{glyph, leading, decimal}
 use Rattle.text.specs.DecimalLaws.{decimal-leading, decimal-digit}
 use Rattle.history.specs.Events.{Kind, read, write, Event, opens, steps, ends, abandons, History}
 use Rattle.verdicts.specs.Logs.{kind-number}
 use Rattle.notation.specs.Notation.{letter, symbol, text-of, Sayable, Says, Form, Begins, Wrong, no-such-byte, stops-short}
-use Rattle.notation.specs.Parse.{Stand, stand, off, kind-of, with-cell, is-digit, goes-on, letter-next, first-next, job-next, first-cell-next, cell-next, next, event-at, whole-at, grown, Parsed, wrong, says, parse-end, parse-from, parse}
+use Rattle.notation.specs.Parse.{Stand, stand, off, kind-of, with-cell, is-digit, goes-on, letter-next, job-next, cell-next, next, event-at, whole-at, grown, Parsed, wrong, says, parse-end, parse-from, parse}
 
 -- ---- a number in decimal, digit by digit
 
@@ -665,64 +665,3 @@ form-or-wrong t = go (parse t) (parse-right t)
     go : (r : Parsed) → Read t r → Form t ⊎ ((p : ℕ) × Wrong t p)
     go (says h) (said s) = inl (h, s)
     go (wrong p) (gone-wrong w) = inr (p, w)
-
--- ---- the numbers of a stand are small, for code that holds them
-
-pub record Held (s : Stand) : Type 0 where
-  pub phase : s .phase ≤ 7
-  pub kind : s .kind ≤ 4
-  pub job : s .job < 4_294_967_296
-  pub cell : s .cell < 65_536
-
-pub held-start : Held (stand 0 0 0 0)
-held-start = record { phase = omega arith; kind = omega arith; job = omega arith; cell = omega arith }
-
-held-off : Held off
-held-off = record { phase = omega arith; kind = omega arith; job = omega arith; cell = omega arith }
-
-held-blank : Held (stand 1 0 0 0)
-held-blank = record { phase = omega arith; kind = omega arith; job = omega arith; cell = omega arith }
-
-kind-small : (b : ℕ) → kind-of b ≤ 4
-unfolding kind-of
-kind-small b =
-    chosen (λ (k : ℕ). k ≤ 4) (eqb b 66) (omega arith)
-    (chosen (λ (k : ℕ). k ≤ 4) (eqb b 82) (omega arith) (chosen (λ (k : ℕ). k ≤ 4) (eqb b 87) (omega arith) (chosen (λ (k : ℕ). k ≤ 4) (eqb b 69) (omega arith) (omega arith))))
-
-module _ (s : Stand) (b : ℕ) (h : Held s) where
-  held-letter : Held (letter-next b)
-  held-letter = let k = kind-small b in chosen Held (eqb (kind-of b) 0) held-off (record { phase = omega arith; kind = k; job = omega arith; cell = omega arith })
-
-  held-first : Held (first-next (s .kind) b)
-  held-first =
-      by-test (λ t. Held (cond t (stand 3 (s .kind) (b - 48) 0) off)) (digit-test b) (λ d. let l = d .1 in record { phase = omega arith; kind = h .kind; job = omega arith; cell = omega arith }) (λ f. held-off)
-
-  held-job : Held (job-next (s .kind) (s .job) b)
-  held-job =
-      chosen Held (is-digit b)
-      (by-test (λ t. Held (cond t (stand 3 (s .kind) (s .job * 10 + (b - 48)) 0) off)) (goes-test (s .job) b 4_294_967_296)
-      (λ g. record { phase = omega arith; kind = h .kind; job = g .1; cell = omega arith }) (λ f. held-off))
-      (chosen Held (with-cell (s .kind))
-      (chosen Held (eqb b 91) (record { phase = omega arith; kind = h .kind; job = h .job; cell = omega arith }) held-off)
-      (chosen Held (eqb b 32) held-blank held-off))
-
-  held-first-cell : Held (first-cell-next (s .kind) (s .job) b)
-  held-first-cell =
-      by-test (λ t. Held (cond t (stand 5 (s .kind) (s .job) (b - 48)) off)) (digit-test b) (λ d. let l = d .1 in record { phase = omega arith; kind = h .kind; job = h .job; cell = omega arith }) (λ f. held-off)
-
-  held-cell : Held (cell-next (s .kind) (s .job) (s .cell) b)
-  held-cell =
-      chosen Held (is-digit b)
-      (by-test (λ t. Held (cond t (stand 5 (s .kind) (s .job) (s .cell * 10 + (b - 48))) off)) (goes-test (s .cell) b 65_536)
-      (λ g. record { phase = omega arith; kind = h .kind; job = h .job; cell = g .1 }) (λ f. held-off))
-      (chosen Held (eqb b 93) (record { phase = omega arith; kind = h .kind; job = h .job; cell = h .cell }) held-off)
-
-  pub held-next : Held (next s b)
-  unfolding next
-  held-next =
-      chosen Held (ltb (s .phase) 2) held-letter
-      (chosen Held (eqb (s .phase) 2) held-first
-      (chosen Held (eqb (s .phase) 3) held-job
-      (chosen Held (eqb (s .phase) 4) held-first-cell
-      (chosen Held (eqb (s .phase) 5) held-cell
-      (chosen Held (eqb (s .phase) 6) (chosen Held (eqb b 32) held-blank held-off) held-off)))))

@@ -1,2 +1,3 @@
 pub mod PairsOnly
+pub mod WrongBuilds
 pub mod WrongVerdicts

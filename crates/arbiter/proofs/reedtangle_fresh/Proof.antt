@@ -1,5 +1,5 @@
 -- `arbiter::reedtangle_fresh` meets its contract. Assumes nothing.
-use Rattle.arbiter.proofs.RequestLaws.{fresh-law}
+use Rattle.arbiter.proofs.ReplayLaws.{fresh-law}
 use Rattle.arbiter.proofs.reedtangle_fresh.Statement.{statement}
 use Rattle.arbiter.proofs.reedtangle_fresh.Tie as tie
 

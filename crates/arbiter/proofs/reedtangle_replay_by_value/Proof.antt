@@ -4,7 +4,7 @@ use Prim.Native.Nat.{_+_, _-_, _*_, _≤_}
 use native.Mathlib.Omega.{arith}
 use lib.ListN.{length}
 use borrow.Author.Needs.{needs}
-use Rattle.arbiter.specs.Lent.{lent}
+use Rattle.slots.specs.Lent.{lent}
 use Rattle.arbiter.proofs.ReplayLaws.{Replaying, replay-start, replay-fits, replay-turn, replay-end, replay-short}
 use Rattle.arbiter.proofs.reedtangle_replay_by_value.Statement.{statement}
 use Rattle.arbiter.proofs.reedtangle_replay_by_value.Tie as tie

@@ -4,9 +4,8 @@ use Prim.Native.Nat.{_+_, _-_, _*_, _≤_}
 use native.Mathlib.Omega.{arith}
 use lib.ListN.{length}
 use borrow.Author.Needs.{needs}
-use Rattle.arbiter.specs.Lent.{lent}
-use Rattle.arbiter.proofs.RequestLaws.{fresh-law}
-use Rattle.arbiter.proofs.ReplayLaws.{Replaying, replay-start, replay-fits, replay-turn, replay-end, replay-short}
+use Rattle.slots.specs.Lent.{lent}
+use Rattle.arbiter.proofs.ReplayLaws.{fresh-law, Replaying, replay-start, replay-fits, replay-turn, replay-end, replay-short}
 use Rattle.arbiter.proofs.replay.Statement.{statement}
 use Rattle.arbiter.proofs.replay.Tie as tie
 

@@ -4,7 +4,7 @@ use mathlib.Core.Logic.{inl, inr}
 use native.Mathlib.Omega.{arith}
 use borrow.Author.Needs.{needs}
 use Rattle.held.specs.Held.{Held}
-use Rattle.arbiter.specs.Lent.{lent}
+use Rattle.slots.specs.Lent.{lent}
 use Rattle.batch.proofs.RunLaws.{batch-length, batch-granted, batch-refused}
 use Rattle.batch.proofs.batch_in_place.Statement.{statement}
 use Rattle.batch.proofs.batch_in_place.Tie as tie

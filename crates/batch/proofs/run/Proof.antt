@@ -5,7 +5,7 @@ use Prim.Native.Nat.{_-_}
 use native.Mathlib.Omega.{arith}
 use borrow.Author.Needs.{needs}
 use Rattle.graph.specs.Lists.{other}
-use Rattle.arbiter.specs.Lent.{lent}
+use Rattle.slots.specs.Lent.{lent}
 use Rattle.batch.proofs.RunLaws.{Running, run-start, run-turn, run-stop, run-end}
 use Rattle.batch.proofs.run.Statement.{statement}
 use Rattle.batch.proofs.run.Tie as tie

@@ -3,7 +3,7 @@ use mathlib.Core.Path.{_≡_}
 use native.Mathlib.Omega.{arith}
 use borrow.Author.Needs.{needs}
 use Rattle.history.specs.Formats.{request-of}
-use Rattle.arbiter.specs.Lent.{lent}
+use Rattle.slots.specs.Lent.{lent}
 use Rattle.batch.proofs.RunLaws.{takes-step, takes-none}
 use Rattle.batch.proofs.step_item.Statement.{statement}
 use Rattle.batch.proofs.step_item.Tie as tie

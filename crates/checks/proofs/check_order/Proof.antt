@@ -14,9 +14,11 @@ use Rattle.verdicts.specs.Verdicts.{verdict, first-bad, missing, first-backward
 use Rattle.tallies.specs.Jobs.{Taken}
 use Rattle.tallies.specs.Places.{Placed, found-at}
 use Rattle.tallies.specs.PadLaws.{zeros}
-use Rattle.checks.specs.Checks.{Reads, Keeps}
-use Rattle.checks.specs.declared.Read.the-variants.{Jobs}
-use Rattle.checks.proofs.CheckLaws.{read-fault, read-jobs, keeps-as, keeps-missing, keeps-all, found-some, found-none, log-size, FaultKnown, fault-known, last-code, check-faulty, check-bad, check-missing, check-turned, check-accepted}
+use Rattle.logs.specs.Logs.{Reads}
+use Rattle.logs.specs.declared.Read.the-variants.{Jobs}
+use Rattle.logs.proofs.ReadLaws.{read-fault, read-jobs}
+use Rattle.checks.specs.Checks.{Keeps}
+use Rattle.checks.proofs.CheckLaws.{keeps-as, keeps-missing, keeps-all, found-some, found-none, log-size, FaultKnown, fault-known, last-code, check-faulty, check-bad, check-missing, check-turned, check-accepted}
 use Rattle.checks.proofs.check_order.Statement.{statement}
 use Rattle.checks.proofs.check_order.Tie as tie
 

@@ -7,8 +7,7 @@ use borrow.Author.Needs.{needs}
 use lib.ListN.{length, length-set}
 use Rattle.graph.specs.Lists.{other}
 use Rattle.history.specs.Events.{History}
-use Rattle.tallies.specs.Jobs.{Jobs}
-use Rattle.tallies.specs.Jobs.{Blank}
+use Rattle.tallies.specs.Jobs.{Jobs, Blank}
 use Rattle.tallies.specs.TableLaws.{rises}
 use Rattle.tallies.specs.PlaceLaws.{found-in, Placing, placing-start, placing-end, stops-unknown, stops-gone, stops-twice, goes-on}
 use Rattle.checks.proofs.place_order.Statement.{statement}
@@ -26,14 +25,14 @@ loop-holds c =
     let a = c .before .before .before .args in
     (omega arith, c .places .given .0 .1, λ h jobs blank. placing-start h (a .count) (a .order .now) (a .placed .now) blank)
 
-mul-find : tie.Need-mul-find Inv-loop μ-loop
-mul-find c = search needs
+mul-find-job : tie.Need-mul-find-job Inv-loop μ-loop
+mul-find-job c = search needs
 
-shared-slice-read-find : tie.Need-shared-slice-read-find Inv-loop μ-loop
-shared-slice-read-find c = search needs
+shared-slice-read-find-job : tie.Need-shared-slice-read-find-job Inv-loop μ-loop
+shared-slice-read-find-job c = search needs
 
-find-requires : tie.Need-find-requires Inv-loop μ-loop
-find-requires c κs = search needs
+find-job-requires : tie.Need-find-job-requires Inv-loop μ-loop
+find-job-requires c κs = search needs
 
 returns : tie.Need-returns Inv-loop μ-loop
 returns c =
@@ -42,7 +41,7 @@ returns c =
       omega arith,
       λ h jobs blank.
           stops-unknown jobs (t .before .loop .inv .2 h jobs blank) (t .loop-test .taken)
-          (other (λ w. let q = w .0 in let e = c .if1 .taken in omega arith) (f .find .ensures .1 (rises jobs)) .1),
+          (other (λ w. let q = w .0 in let e = c .if1 .taken in omega arith) (f .find-job .ensures .1 (jobs .few) (rises jobs)) .1),
     )
 
 shared-slice-read-if2 : tie.Need-shared-slice-read-if2 Inv-loop μ-loop
@@ -54,7 +53,7 @@ returns-2 c =
     let t = e .before .before .before in (
       omega arith,
       λ h jobs blank.
-          let w = found-in (t .before .before .before .before .before .args .numbers .now) (e .before .find .ensures .1 (rises jobs)) (e .if1 .left) in
+          let w = found-in (t .before .before .before .before .before .args .numbers .now) (e .before .find-job .ensures .1 (jobs .few) (rises jobs)) (e .if1 .left) in
           stops-gone jobs (t .before .loop .inv .2 h jobs blank) (t .loop-test .taken) (w .0) (w .1) (c .if2 .taken),
     )
 
@@ -70,7 +69,7 @@ returns-3 c =
     let t = e .before .before .before in (
       omega arith,
       λ h jobs blank.
-          let w = found-in (t .before .before .before .before .before .args .numbers .now) (e .before .find .ensures .1 (rises jobs)) (e .if1 .left) in
+          let w = found-in (t .before .before .before .before .before .args .numbers .now) (e .before .find-job .ensures .1 (jobs .few) (rises jobs)) (e .if1 .left) in
           stops-twice jobs (t .before .loop .inv .2 h jobs blank) (t .loop-test .taken) (w .0) (w .1) (c .if3 .taken),
     )
 
@@ -95,9 +94,9 @@ loop-again c =
     let t = e .before .before .before in
     let l = t .before in (
       omega arith,
-      length-set (l .loop .places) (e .before .find .result) (l .loop .i + 1) ∙ l .loop .inv .1,
+      length-set (l .loop .places) (e .before .find-job .result) (l .loop .i + 1) ∙ l .loop .inv .1,
       λ h jobs blank.
-          let w = found-in (t .before .before .before .before .before .args .numbers .now) (e .before .find .ensures .1 (rises jobs)) (e .if1 .left) in
+          let w = found-in (t .before .before .before .before .before .args .numbers .now) (e .before .find-job .ensures .1 (jobs .few) (rises jobs)) (e .if1 .left) in
           goes-on jobs (l .loop .inv .2 h jobs blank) (t .loop-test .taken) (w .0) (w .1) (omega (arith, jobs .few, w .0)) (c .before .before .if2 .left) (c .if3 .left),
     )
 
@@ -111,9 +110,9 @@ place-order-spec =
     Inv-loop
     μ-loop
     loop-holds
-    mul-find
-    shared-slice-read-find
-    find-requires
+    mul-find-job
+    shared-slice-read-find-job
+    find-job-requires
     returns
     shared-slice-read-if2
     returns-2

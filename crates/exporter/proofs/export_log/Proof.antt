@@ -7,9 +7,9 @@ use Rattle.verdicts.specs.Logs.{read-log, faulty}
 use Rattle.verdicts.specs.SizeLaws.{log-size, FaultKnown, fault-known, last-code}
 use Rattle.blocks.specs.Blocks.{refused}
 use Rattle.tallies.specs.Jobs.{Taken}
-use Rattle.checks.specs.Checks.{Reads}
-use Rattle.checks.specs.declared.Read.the-variants.{Jobs}
-use Rattle.checks.proofs.CheckLaws.{read-fault, read-jobs}
+use Rattle.logs.specs.Logs.{Reads}
+use Rattle.logs.specs.declared.Read.the-variants.{Jobs}
+use Rattle.logs.proofs.ReadLaws.{read-fault, read-jobs}
 use Rattle.notation.specs.Answers.{export}
 use Rattle.exporter.proofs.AnswerLaws.{export-faulty, export-read}
 use Rattle.exporter.proofs.export_log.Statement.{statement}

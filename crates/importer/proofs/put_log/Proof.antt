@@ -7,9 +7,9 @@ use Rattle.verdicts.specs.Logs.{read-log, faulty}
 use Rattle.verdicts.specs.SizeLaws.{FaultKnown, fault-known, last-code}
 use Rattle.blocks.specs.Blocks.{refused}
 use Rattle.notation.specs.Answers.{imported}
-use Rattle.checks.specs.Checks.{Reads}
-use Rattle.checks.specs.declared.Read.the-variants.{Jobs}
-use Rattle.checks.proofs.CheckLaws.{read-fault, read-jobs}
+use Rattle.logs.specs.Logs.{Reads}
+use Rattle.logs.specs.declared.Read.the-variants.{Jobs}
+use Rattle.logs.proofs.ReadLaws.{read-fault, read-jobs}
 use Rattle.importer.proofs.AnswerLaws.{put-fault, put-not, put-all}
 use Rattle.importer.proofs.put_log.Statement.{statement}
 use Rattle.importer.proofs.put_log.Tie as tie

@@ -4,7 +4,7 @@ use Prim.Native.Nat.{_-_, _≤_, _/_}
 use native.Mathlib.Omega.{arith}
 use borrow.Author.Needs.{needs}
 use lib.ListN.{length}
-use Rattle.arbiter.specs.Lent.{lent}
+use Rattle.slots.specs.Lent.{lent}
 use Rattle.lines.proofs.RunLaws.{Run, run-first, run-next, room-line, writes-all, writes-no-place, writes-no-room}
 use Rattle.lines.proofs.lines.Statement.{statement}
 use Rattle.lines.proofs.lines.Tie as tie

@@ -4,7 +4,7 @@ use native.Mathlib.Omega.{arith}
 use Prim.Native.Nat.{_+_}
 use lib.ListN.{set, length-set}
 use Rattle.text.specs.Puts.{Puts}
-use Rattle.arbiter.specs.Lent.{numbered}
+use Rattle.slots.specs.Lent.{numbered}
 use Rattle.lines.specs.Lines.{line}
 use Rattle.lines.proofs.PutLaws.{Numbered, number-put, code-small, room-job, room-end, puts-line}
 use borrow.Author.Needs.{needs}

@@ -11,9 +11,11 @@ use Rattle.tallies.specs.Jobs.{Taken}
 use Rattle.tallies.specs.Marks.{Preceded, KeptMarks}
 use Rattle.tallies.specs.Places.{Lists}
 use Rattle.tallies.specs.PadLaws.{zeros}
-use Rattle.checks.specs.Checks.{Reads, Keeps}
-use Rattle.checks.specs.declared.Read.the-variants.{Jobs}
-use Rattle.checks.proofs.CheckLaws.{read-fault, read-jobs, keeps-as, keeps-missing, keeps-all, log-size, FaultKnown, fault-known, last-code}
+use Rattle.logs.specs.Logs.{Reads}
+use Rattle.logs.specs.declared.Read.the-variants.{Jobs}
+use Rattle.logs.proofs.ReadLaws.{read-fault, read-jobs}
+use Rattle.checks.specs.Checks.{Keeps}
+use Rattle.checks.proofs.CheckLaws.{keeps-as, keeps-missing, keeps-all, log-size, FaultKnown, fault-known, last-code}
 use Rattle.lists.proofs.ListedLaws.{list-faulty, list-short, list-none, list-done}
 use Rattle.lists.proofs.list_order.Statement.{statement}
 use Rattle.lists.proofs.list_order.Tie as tie

@@ -1,6 +1,6 @@
 -- `arbiter::State::fresh` meets its contract. Assumes nothing.
 use borrow.Author.Needs.{needs}
-use Rattle.arbiter.proofs.RequestLaws.{fresh-law}
+use Rattle.arbiter.proofs.ReplayLaws.{fresh-law}
 use Rattle.arbiter.proofs.State.fresh.Statement.{statement}
 use Rattle.arbiter.proofs.State.fresh.Tie as tie
 

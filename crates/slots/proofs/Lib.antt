@@ -1,0 +1,6 @@
+pub mod SearchLaws
+pub mod SetLaws
+pub mod ClashLaws
+pub mod PastLaws
+pub mod RequestLaws
+pub mod OneAnswer

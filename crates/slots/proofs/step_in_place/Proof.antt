@@ -1,0 +1,60 @@
+-- `slots::step_in_place` meets its contract: a law of RequestLaws for each arm, from what the function called there ensures. Assumes nothing.
+use mathlib.Core.Bool.{true, false}
+use borrow.Author.Needs.{needs}
+use Rattle.held.specs.Held.{Held}
+use Rattle.slots.specs.Lent.{lent}
+use Rattle.slots.proofs.RequestLaws.{steps-byte, steps-kind, steps-open, steps-step, steps-end, steps-abandon}
+use Rattle.slots.proofs.step_in_place.Statement.{statement}
+use Rattle.slots.proofs.step_in_place.Tie as tie
+
+-- where byte 1 was found to be 0, and the state at entry
+abbrev well : tie.After-job-in → tie.Else1
+well c = c .before .before
+
+abbrev held : tie.Else1 → Held
+held e = let a = e .before .args in lent (a .next) (a .free) (a .numbers .now) (a .leads .now) (a .sets .now)
+
+returns-byte : tie.Need-returns
+returns-byte c = steps-byte (c .before .before .args .t6) (c .before .if1 .taken) (c .refused .ensures)
+
+returns-open : tie.Need-returns-2
+returns-open c =
+    let m = c .before .before .before .before in
+    let e = well (m .before) in
+    steps-open {h = held e} (e .before .args .t6) (e .if1 .left) (m .match .keys1) (c .open-job .ensures)
+
+returns-read : tie.Need-returns-3
+returns-read c =
+    let m = c .before .before .before .before in
+    let e = well (m .before) in
+    steps-step {h = held e} (e .before .args .t6) (e .if1 .left) false (m .match .keys2) (m .before .job-in .ensures) (m .before .before .cell-in .ensures) (c .step-job .ensures)
+
+returns-write : tie.Need-returns-4
+returns-write c =
+    let m = c .before .before .before .before in
+    let e = well (m .before) in
+    steps-step {h = held e} (e .before .args .t6) (e .if1 .left) true (m .match .keys3) (m .before .job-in .ensures) (m .before .before .cell-in .ensures) (c .step-job2 .ensures)
+
+returns-end : tie.Need-returns-5
+returns-end c =
+    let m = c .before .before .before .before in
+    let e = well (m .before) in
+    steps-end {h = held e} (e .before .args .t6) (e .if1 .left) (m .match .keys4) (m .before .job-in .ensures) (c .end-job .ensures)
+
+returns-abandon : tie.Need-returns-6
+returns-abandon c =
+    let m = c .before .before .before .before in
+    let e = well (m .before) in
+    steps-abandon {h = held e} (e .before .args .t6) (e .if1 .left) (m .match .keys5) (m .before .job-in .ensures) (c .abandon-job .ensures)
+
+returns-kind : tie.Need-returns-7
+returns-kind c =
+    let e = well (c .before .before) in
+    steps-kind {h = held e} (e .before .args .t6) (e .if1 .left) (c .before .match .rest) (c .refused2 .ensures)
+
+pub step-in-place-spec : {M : Type 1} → statement M
+step-in-place-spec =
+    tie.close
+    (tie.spec (λ c. search needs) (λ c κs. search needs) returns-byte (λ c. search needs) (λ c κs. search needs) (λ c κs. search needs) (λ c κs. search needs)
+    (λ c κs. search needs) (λ c κs. search needs) (λ c κs. search needs) (λ c κs. search needs) (λ c κs. search needs)
+    returns-open returns-read returns-write returns-end returns-abandon returns-kind)

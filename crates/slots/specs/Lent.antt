@@ -1,0 +1,50 @@
+-- What the contracts of slots and arbiter say: the state that lent lists make, the reply that an answer is, and what a step leaves, by the rule of the crate held.
+-- Assumes nothing.
+use mathlib.Core.Path.{_≡_}
+use mathlib.Core.Bool.{Bool, true, false, cond}
+use mathlib.Core.List.{List, []}
+use Prim.Native.Nat.{ℕ}
+use lib.Dec.{eqb}
+use Rattle.history.specs.Events.{Kind, read, write}
+use Rattle.history.specs.Replies.{Request, Reply, Want, first-of, tests, job-of}
+use Rattle.held.specs.Held.{Held, facts, moved, answer-to, after}
+use Rattle.slots.specs.declared.JobNumber.{JobNumber}
+use Rattle.slots.specs.declared.Answer.{Answer}
+use Rattle.slots.specs.declared.Answer.the-variants.{Granted, Malformed, NoCell, NotOpen, HasWritten, Full, Spent, Circle}
+use Rattle.slots.specs.declared.Moved.{Moved}
+
+-- the state whose arrays are lent
+abbrev pub lent : ℕ → ℕ → List ℕ → List ℕ → List ℕ → Held
+lent next free numbers leads sets = record { next = next; free = free; numbers = numbers; leads = leads; sets = sets }
+
+-- a state of which only the sets matter
+abbrev pub sets-only : List ℕ → Held
+sets-only sets = lent 0 0 [] [] sets
+
+-- document 01's code and job number of each answer
+abbrev pub numbered : Answer → Reply
+numbered (Granted j) = record { code = 0; job = j .0 }
+numbered Malformed = record { code = 1; job = 0 }
+numbered NoCell = record { code = 2; job = 0 }
+numbered NotOpen = record { code = 3; job = 0 }
+numbered HasWritten = record { code = 4; job = 0 }
+numbered Full = record { code = 5; job = 0 }
+numbered Spent = record { code = 6; job = 0 }
+numbered Circle = record { code = 7; job = 0 }
+
+abbrev pub kind-of : Bool → Kind
+kind-of true = write
+kind-of false = read
+
+-- what a well-formed request for w leaves: the reply that the tests give, and the state moved by a grant
+unfoldable pub code-for : Held → Want → ℕ → ℕ → ℕ
+code-for h w j c = first-of (tests (facts h) w j c)
+
+pub record Does (h : Held) (w : Want) (j c : ℕ) (r : Moved) (numbers leads sets : List ℕ) : Type 0 where
+  pub answered : numbered (r .answer) ≡ record { code = code-for h w j c; job = cond (eqb (code-for h w j c) 0) (job-of (h .next) w j) 0 }
+  pub left : lent (r .next) (r .free) numbers leads sets ≡ cond (eqb (code-for h w j c) 0) (moved h w j c) h
+
+-- what a request leaves
+pub record Steps (h : Held) (q : Request) (r : Moved) (numbers leads sets : List ℕ) : Type 0 where
+  pub answered : numbered (r .answer) ≡ answer-to h q
+  pub left : lent (r .next) (r .free) numbers leads sets ≡ after h q

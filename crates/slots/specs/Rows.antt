@@ -1,0 +1,91 @@
+-- Names for what the functions over lent arrays ensure: the rules of masks of slots, the words in which a clash shows, and arrays that are changed.
+-- Each says of lists of numbers what `held` says of a state.
+-- Assumes nothing.
+use mathlib.Core.Bool.{Bool, not, _&&_, cond}
+use mathlib.Core.List.{List}
+use Prim.Native.Nat.{ℕ, _+_, _-_, _*_, _/_, _%_, _^_}
+use lib.Bits.{bitOr, bitAnd}
+use lib.Dec.{leb, eqb}
+use lib.ListN.{getD}
+use Rattle.graph.specs.Lists.{only}
+use Rattle.graph.specs.Reach.{reach}
+use Rattle.marks.specs.Marks.{bit, without, tab, upto}
+use Rattle.history.specs.Events.{Kind}
+use Rattle.held.specs.Held.{touched}
+use Rattle.slots.specs.Lent.{sets-only}
+
+-- ---- masks of slots
+
+-- open; open and with the number; another open one that leads to s
+abbrev pub is-open : ℕ → ℕ → Bool
+is-open free i = not (bit free i)
+
+abbrev pub holds : ℕ → List ℕ → ℕ → ℕ → Bool
+holds free numbers j i = is-open free i && eqb (getD numbers i 0) j
+
+abbrev pub leads-to : ℕ → List ℕ → ℕ → ℕ → Bool
+leads-to free leads s i = is-open free i && (not (eqb i s) && bit (getD leads i 0) s)
+
+-- open and reached from s by one lead or more, over open slots
+abbrev pub reaches : ℕ → List ℕ → ℕ → ℕ → Bool
+reaches free leads s x = is-open free x && reach (λ i y. bit (getD leads i 0) y) (only (is-open free) (upto 32)) s x
+
+-- touched by a step of no slot: slot 32 is no row, so that own and past of every row count; open and touched by a step of s
+abbrev pub met : List ℕ → Kind → ℕ → ℕ → Bool
+met sets k c i = touched (sets-only sets) k 32 c i
+
+abbrev pub touches : ℕ → List ℕ → Kind → ℕ → ℕ → ℕ → Bool
+touches free sets k s c i = is-open free i && touched (sets-only sets) k s c i
+
+-- the leads of s to open slots
+abbrev pub theirs : ℕ → List ℕ → ℕ → ℕ
+theirs free leads s = bitAnd (getD leads s 0) (2 ^ 32 - 1 - free)
+
+-- ---- words of the sets
+
+-- in which a clash with a step on a cell of place p would show, own and past of row i together: the writes, and for a write the reads too
+abbrev pub clash-word : List ℕ → Bool → ℕ → ℕ → ℕ
+clash-word sets writes p i =
+    cond writes
+    (bitOr (bitOr (getD sets (i * 16 + (4 + p)) 0) (getD sets (i * 16 + (12 + p)) 0)) (bitOr (getD sets (i * 16 + p) 0) (getD sets (i * 16 + (8 + p)) 0)))
+    (bitOr (getD sets (i * 16 + (4 + p)) 0) (getD sets (i * 16 + (12 + p)) 0))
+
+-- past alone
+abbrev pub past-word : List ℕ → Bool → ℕ → ℕ → ℕ
+past-word sets writes p i =
+    cond writes (bitOr (getD sets (i * 16 + (12 + p)) 0) (getD sets (i * 16 + (8 + p)) 0)) (getD sets (i * 16 + (12 + p)) 0)
+
+-- word w of a past that gains own and past of s, which stand at the same place of their half rows
+abbrev pub gained-word : List ℕ → ℕ → ℕ → ℕ
+gained-word sets s w = bitOr (getD sets w 0) (bitOr (getD sets (s * 16 + (w % 16 - 8)) 0) (getD sets (s * 16 + w % 16) 0))
+
+-- word w where the rows that pass p have gained so
+abbrev pub folded-word : List ℕ → (ℕ → Bool) → ℕ → ℕ → ℕ
+folded-word sets p s w = cond (p (w / 16) && leb 8 (w % 16)) (gained-word sets s w) (getD sets w 0)
+
+-- ---- arrays that are changed
+
+-- a number put into its row
+abbrev pub put : List ℕ → ℕ → ℕ → List ℕ
+put numbers s x = tab 32 (λ i. cond (eqb i s) x (getD numbers i 0))
+
+-- no row leads to s, and its own leads nowhere
+abbrev pub struck : List ℕ → ℕ → List ℕ
+struck leads s = tab 32 (λ i. cond (eqb i s) 0 (without (getD leads i 0) s))
+
+-- the rows that pass p gain leads
+abbrev pub gained-row : List ℕ → (ℕ → Bool) → ℕ → ℕ → ℕ
+gained-row leads p gain i = cond (p i) (bitOr (getD leads i 0) gain) (getD leads i 0)
+
+abbrev pub gained : List ℕ → (ℕ → Bool) → ℕ → List ℕ
+gained leads p gain = tab 32 (gained-row leads p gain)
+
+-- the sets of s are empty; the rows that pass p take over those of s; a set of s, 0 for reads and 4 for writes, gains a cell
+abbrev pub blanked : List ℕ → ℕ → List ℕ
+blanked sets s = tab 512 (λ w. cond (eqb (w / 16) s) 0 (getD sets w 0))
+
+abbrev pub folded : List ℕ → (ℕ → Bool) → ℕ → List ℕ
+folded sets p s = tab 512 (folded-word sets p s)
+
+abbrev pub marked-own : List ℕ → ℕ → ℕ → ℕ → List ℕ
+marked-own sets s place c = tab 512 (λ w. cond (eqb w (s * 16 + (place + c / 64))) (bitOr (getD sets w 0) (2 ^ (c % 64))) (getD sets w 0))
