@@ -7,7 +7,7 @@
 
 The input is the ten requests that document 01 prints, then requests from a generator, and five bytes that are no whole record. The program reads 64 KiB at
 a time from a file, so the input is longer than that: the last requests are a second batch. One job is opened near the start and asks again at the end, about
-cells that were written by a job of the first batch, which has ended since.
+cells that were written by jobs of the first batch, which have ended since, one of them by a publish.
 
 The replies are not the arbiter's. They come from the class `Whole`, which keeps every granted request and decides a step by the precedences of the whole
 kept history. Every code comes up but 6: the program starts from number 1, and 6 wants 4,294,967,295 opens."""
@@ -16,7 +16,7 @@ import subprocess
 import sys
 import time
 
-OPEN, READ, WRITE, END, ABANDON = 1, 2, 3, 4, 5
+OPEN, READ, WRITE, END, ABANDON, PUBLISH = 1, 2, 3, 4, 5, 6
 BATCH = 65536
 TOP = os.path.join(os.path.dirname(os.path.abspath(__file__)), "..", "crates", "trial")
 
@@ -56,8 +56,11 @@ class Whole:
 
     def ask(self, r):
         kind, cell, job = r[0], int.from_bytes(r[2:4], "little"), int.from_bytes(r[4:8], "little")
-        if not 1 <= kind <= 5 or r[1] != 0:
+        if not 1 <= kind <= 6 or r[1] != 0:
             return 1, 0
+        if kind == PUBLISH:  # a write, and where that is granted an end
+            said = self.ask(request(WRITE, 0, cell, job))
+            return said if said[0] else self.ask(request(END, 0, 0, job))
         if kind == OPEN:
             if self.next > 0xFFFFFFFF:
                 return 6, 0
@@ -116,14 +119,16 @@ def some(r, shape, live):
     if r.below(100) < bad:
         return [
             request(r.below(256), 0, r.below(300), job),
-            request(1 + r.below(5), 1 << r.below(8), r.below(300), job),
-            request(2 + r.below(2), 0, 256 + r.below(65280), job),
-            request(2 + r.below(4), 0, r.below(250), r.below(0x100000000)),
-            request(2 + r.below(4), 0, r.below(250), max(0, job - 1 - r.below(9))),
+            request(1 + r.below(6), 1 << r.below(8), r.below(300), job),
+            request((READ, WRITE, PUBLISH)[r.below(3)], 0, 256 + r.below(65280), job),
+            request(2 + r.below(5), 0, r.below(250), r.below(0x100000000)),
+            request(2 + r.below(5), 0, r.below(250), max(0, job - 1 - r.below(9))),
         ][r.below(5)]
     if not live or (len(live) < most and r.below(4) == 0):
         return request(OPEN, 0, r.below(65536), r.below(0x100000000))
     if r.below(8 if len(live) < most else 4) == 0:
+        if r.below(3) == 0:
+            return request(PUBLISH, 0, r.below(cells), job)
         return request(ABANDON if r.below(100) < abandons else END, 0, r.below(65536), job)
     return request(2 + r.below(2), 0, r.below(cells), job)
 
@@ -138,29 +143,36 @@ def make():
         data.extend(r)
         if code == 0 and r[0] == OPEN:
             live.append(job)
-        if code == 0 and r[0] in (END, ABANDON):
+        if code == 0 and r[0] in (END, ABANDON, PUBLISH):
             live.remove(job)
         return code, job
 
     # document 01's ten
     for kind, cell, job in [(OPEN, 0, 0), (OPEN, 0, 0), (READ, 5, 1), (READ, 5, 2), (WRITE, 5, 2), (END, 0, 2), (WRITE, 5, 1), (WRITE, 256, 1), (ABANDON, 0, 1), (READ, 5, 1)]:
         ask(request(kind, 0, cell, job))
-    # one job reads cell 250 and stays; another writes cells 250 and 251 and ends. The generator takes no cell from 250 on but in bad requests
+    # one job reads cells 250 and 253 and stays; another writes cells 250 and 251 and ends; a third writes cell 254 and publishes cell 253. The generator takes no cell from
+    # 250 on but in bad requests
     stays = ask(request(OPEN, 0, 0, 0))[1]
     ask(request(READ, 0, 250, stays))
-    leaves = ask(request(OPEN, 0, 0, 0))[1]
+    ask(request(READ, 0, 253, stays))
+    leaves, publishes = ask(request(OPEN, 0, 0, 0))[1], ask(request(OPEN, 0, 0, 0))[1]
     for kind, cell in [(WRITE, 250), (WRITE, 251), (END, 0)]:
         ask(request(kind, 0, cell, leaves))
+    assert ask(request(WRITE, 0, 254, publishes)) == (0, publishes)
+    assert ask(request(PUBLISH, 0, 253, publishes)) == (0, publishes)
+    assert ask(request(PUBLISH, 0, 253, publishes))[0] == 3
     live.remove(stays)
-    r = Random(20240229)
-    while len(data) < BATCH + 8 * 30:
+    r = Random(20240301)
+    while len(data) < BATCH + 8 * 28:
         ask(some(r, SHAPES[len(data) // 2048 % len(SHAPES)], live))
-    # in the second batch: what the other job wrote closes a circle, a cell of nobody else does not
+    # in the second batch: what the other jobs wrote closes a circle, by a publish too, and a cell of nobody else does not
     live.append(stays)
     assert ask(request(READ, 0, 251, stays))[0] == 7
+    assert ask(request(READ, 0, 254, stays))[0] == 7
+    assert ask(request(PUBLISH, 0, 253, stays))[0] == 7
     assert ask(request(WRITE, 0, 252, stays))[0] == 0
     assert ask(request(ABANDON, 0, 0, stays))[0] == 4
-    assert ask(request(END, 0, 0, stays))[0] == 0
+    assert ask(request(PUBLISH, 0, 252, stays))[0] == 0
     tail = bytes([OPEN, 0, 0, 0, 0])
     out.append("tail %d" % len(tail))
     return bytes(data) + tail, ("\n".join(out) + "\n").encode()
@@ -193,6 +205,8 @@ def main():
     data, out = make()
     codes = [line.split()[1] for line in out.decode().splitlines()[1:-1]]
     print("%d bytes; of each code %s" % (len(data), ", ".join("%s %d" % (c, codes.count(c)) for c in sorted(set(codes)))))
+    publishes = [c for i, c in enumerate(codes) if data[8 * i] == PUBLISH]
+    print("%d publishes; of each code %s" % (len(publishes), ", ".join("%s %d" % (c, publishes.count(c)) for c in sorted(set(publishes)))))
     if words[0] == "make":
         for name, content in (("stdin", data), ("stdout", out)):
             with open(os.path.join(TOP, name), "wb") as f:

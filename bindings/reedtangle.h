@@ -55,7 +55,7 @@ enum {
  *
  * Both are eight bytes:
  *
- *     byte   0      the kind, 1 to 5
+ *     byte   0      the kind, 1 to 6 in a request, 1 to 5 in a record
  *     byte   1      0
  *     bytes  2, 3   the cell, low byte first
  *     bytes  4..7   the job, low byte first
@@ -66,9 +66,10 @@ enum {
  *     3  write        the cell            the asking job     the cell           the asking job
  *     4  end          ignored             the asking job     0                  the asking job
  *     5  abandon      ignored             the asking job     0                  the asking job
+ *     6  publish      the cell            the asking job     none: two records, a write and an end
  *
- * A read of cell 5 by job 1 is 02 00 05 00 01 00 00 00. A log is the records of what was granted, in the sequence of the grants, and
- * nothing else: reedtangle_put_record below makes the record of a granted request.
+ * A read of cell 5 by job 1 is 02 00 05 00 01 00 00 00. A publish is a write of its cell and the end of its job in one request. A log is the records
+ * of what was granted, in the sequence of the grants, and nothing else: reedtangle_put_records below makes those of a granted request.
  */
 
 enum {
@@ -76,7 +77,8 @@ enum {
     REEDTANGLE_READ = 2,
     REEDTANGLE_WRITE = 3,
     REEDTANGLE_END = 4,
-    REEDTANGLE_ABANDON = 5
+    REEDTANGLE_ABANDON = 5,
+    REEDTANGLE_PUBLISH = 6
 };
 
 /* ---- codes */
@@ -85,15 +87,15 @@ enum {
     /* all: granted, accepted, listed, done */
     REEDTANGLE_GRANTED = 0,
 
-    /* reedtangle_step, and each answer of reedtangle_replay. Tested in this sequence: open 1, 6, 5; read and write 1, 2, 3, 7;
-       end 1, 3; abandon 1, 3, 4. The first that holds is given. */
-    REEDTANGLE_MALFORMED = 1,       /* the kind is none of 1 to 5, or byte 1 is not 0 */
-    REEDTANGLE_NO_CELL = 2,         /* the cell of a read or write is 256 or more */
+    /* reedtangle_step, and each answer of reedtangle_replay. Tested in this sequence: open 1, 6, 5; read, write and publish
+       1, 2, 3, 7; end 1, 3; abandon 1, 3, 4. The first that holds is given. */
+    REEDTANGLE_MALFORMED = 1,       /* the kind is none of 1 to 6, or byte 1 is not 0 */
+    REEDTANGLE_NO_CELL = 2,         /* the cell of a read, write or publish is 256 or more */
     REEDTANGLE_NOT_OPEN = 3,        /* the asking job is not open */
     REEDTANGLE_HAS_WRITTEN = 4,     /* an abandon of a job that has written */
     REEDTANGLE_FULL = 5,            /* an open while 32 jobs are open */
     REEDTANGLE_SPENT = 6,           /* an open after job number 4,294,967,295 was issued */
-    REEDTANGLE_CIRCLE = 7,          /* with this read or write no order of the jobs would do */
+    REEDTANGLE_CIRCLE = 7,          /* with this read, or this write, a publish's too, no order of the jobs would do */
 
     /* checker and lister: the log is at fault. The place is that of the first faulty record, counted from 0; for 11 it is 0. */
     REEDTANGLE_LENGTH = 11,         /* the length is no multiple of 8, or over 32,768 bytes */
@@ -129,7 +131,8 @@ void reedtangle_fresh(uint32_t first, uint64_t *next, uint32_t *free, uint32_t *
  * issued for a granted open, the asking job for any other grant, and 0 for a refusal; since 0 is a job number too, go by the code.
  *
  * From a fresh state through any requests, each answer is the one that the whole history gives: a read or write of an open job on a real
- * cell gets 7 exactly when no order of the jobs would do with it. On a refusal no bit of the state changes. For a state with any other
+ * cell gets 7 exactly when no order of the jobs would do with it. A publish is granted exactly when its write is, and leaves the state that the write
+ * and the end of the job leave; where it is refused the job is open as before. On a refusal no bit of the state changes. For a state with any other
  * content the call still ends, with one answer and one next state; then nothing is said of a history.
  */
 uint64_t reedtangle_step(uint64_t *next, uint32_t *free, uint32_t *numbers, uint32_t *leads, uint64_t *sets, const uint8_t *request);
@@ -326,12 +329,24 @@ static inline void reedtangle_put_request(uint8_t *bytes, uint8_t kind, uint16_t
     bytes[7] = (uint8_t)(job >> 24);
 }
 
-/* Puts into eight bytes the record of a request that was granted with this job. */
+/* Puts into eight bytes the record of a request that was granted with this job. Not for a publish, which has two. */
 static inline void reedtangle_put_record(uint8_t *bytes, const uint8_t *request, uint32_t job)
 {
     int step = request[0] == REEDTANGLE_READ || request[0] == REEDTANGLE_WRITE;
     uint16_t cell = step ? (uint16_t)(request[2] | (request[3] << 8)) : (uint16_t)0;
     reedtangle_put_request(bytes, request[0], cell, job);
+}
+
+/* Puts the records of a request that was granted with this job: eight bytes, or sixteen for a publish, its write and its end. How many bytes they are. */
+static inline size_t reedtangle_put_records(uint8_t *bytes, const uint8_t *request, uint32_t job)
+{
+    if (request[0] != REEDTANGLE_PUBLISH) {
+        reedtangle_put_record(bytes, request, job);
+        return 8;
+    }
+    reedtangle_put_request(bytes, REEDTANGLE_WRITE, (uint16_t)(request[2] | (request[3] << 8)), job);
+    reedtangle_put_request(bytes + 8, REEDTANGLE_END, 0, job);
+    return 16;
 }
 
 #ifdef __cplusplus

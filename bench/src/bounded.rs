@@ -142,6 +142,31 @@ impl Bounded {
     }
 
     #[inline]
+    fn leave(&mut self, s: usize) {
+        self.blank(s);
+        self.numbers[s] = 0;
+        self.free |= 1 << s;
+    }
+
+    /// Who leads to the slot takes over what it held and whom it led to.
+    #[inline]
+    fn end(&mut self, s: usize) {
+        let open = !self.free;
+        let theirs = self.leads[s] & open;
+        let gone = self.rows[s];
+        for i in all(open & !(1 << s)) {
+            if self.leads[i] >> s & 1 == 1 {
+                for w in 0..8 {
+                    self.rows[i][8 + w] |= gone[w] | gone[8 + w];
+                }
+                self.leads[i] |= theirs;
+                self.unions(i);
+            }
+        }
+        self.leave(s);
+    }
+
+    #[inline]
     pub fn ask(&mut self, r: Request) -> (u32, u32) {
         if r[1] != 0 {
             return (1, 0);
@@ -166,14 +191,14 @@ impl Bounded {
                 self.free &= !(1 << s);
                 (0, number)
             }
-            READ | WRITE => {
+            READ | WRITE | PUBLISH => {
                 if cell > 255 {
                     return (2, 0);
                 }
                 let Some(s) = self.slot(job) else {
                     return (3, 0);
                 };
-                let write = r[0] == WRITE;
+                let write = r[0] != READ;
                 let touched = self.touched(s, cell as usize, write);
                 let seen = self.reached(s);
                 let me = 1u32 << s;
@@ -189,27 +214,16 @@ impl Bounded {
                 if write {
                     self.clash[0][w][s] |= m;
                 }
+                if r[0] == PUBLISH {
+                    self.end(s);
+                }
                 (0, job)
             }
             END => {
                 let Some(s) = self.slot(job) else {
                     return (3, 0);
                 };
-                let open = !self.free;
-                let theirs = self.leads[s] & open;
-                let gone = self.rows[s];
-                for i in all(open & !(1 << s)) {
-                    if self.leads[i] >> s & 1 == 1 {
-                        for w in 0..8 {
-                            self.rows[i][8 + w] |= gone[w] | gone[8 + w];
-                        }
-                        self.leads[i] |= theirs;
-                        self.unions(i);
-                    }
-                }
-                self.blank(s);
-                self.numbers[s] = 0;
-                self.free |= 1 << s;
+                self.end(s);
                 (0, job)
             }
             ABANDON => {
@@ -219,9 +233,7 @@ impl Bounded {
                 if self.rows[s][4..8].iter().any(|&w| w != 0) {
                     return (4, 0);
                 }
-                self.blank(s);
-                self.numbers[s] = 0;
-                self.free |= 1 << s;
+                self.leave(s);
                 (0, job)
             }
             _ => (1, 0),

@@ -15,7 +15,33 @@ struct Tally {
     codes: [u64; 8],
     through_ended: u64,
     by_time: u64,
+    /// Publishes that were granted, and publishes that got 7.
+    published: u64,
+    barred: u64,
     differ: u64,
+}
+
+impl Tally {
+    fn count(&mut self, r: Request, code: u32, same: bool) {
+        self.requests += 1;
+        self.codes[code as usize] += 1;
+        self.published += (r[0] == PUBLISH && code == 0) as u64;
+        self.barred += (r[0] == PUBLISH && code == 7) as u64;
+        self.differ += !same as u64;
+    }
+}
+
+/// A publish leaves and answers what a write and, where that is granted, an end of its job do; asked of the proved arbiter itself, one request after the other.
+fn is_both(before: &Ours, r: Request, reply: (u32, u32), after: &Ours) -> bool {
+    if r[0] != PUBLISH || r[1] != 0 {
+        return true;
+    }
+    let mut two = before.clone();
+    let mut said = two.ask(request(WRITE, 0, cell_of(r), job_of(r)));
+    if said.0 == 0 {
+        said = two.ask(request(END, 0, 0, job_of(r)));
+    }
+    said == reply && two.state() == after.state()
 }
 
 pub fn same_state(o: &Ours, b: &Bounded) -> bool {
@@ -42,11 +68,9 @@ fn windows(shape: Shape, seed: u64, requests: u64) -> Tally {
             let r = s.ask();
             let reply = w.ask(r);
             s.told(reply.0, reply.1);
-            t.requests += 1;
-            t.codes[reply.0 as usize] += 1;
-            if b.ask(r) != reply || o.ask(r) != reply || !same_state(&o, &b) {
-                t.differ += 1;
-            }
+            let before = o.clone();
+            let same = b.ask(r) == reply && o.ask(r) == reply && same_state(&o, &b);
+            t.count(r, reply.0, same && is_both(&before, r, reply, &o));
             sent.extend_from_slice(&r);
             said.extend_from_slice(&reply.0.to_le_bytes());
             said.extend_from_slice(&reply.1.to_le_bytes());
@@ -85,11 +109,8 @@ fn long(shape: Shape, seed: u64, requests: u64) -> Tally {
         let r = s.ask();
         let reply = b.ask(r);
         s.told(reply.0, reply.1);
-        t.requests += 1;
-        t.codes[reply.0 as usize] += 1;
-        if o.ask(r) != reply || (t.requests % 64 == 0 && !same_state(&o, &b)) {
-            t.differ += 1;
-        }
+        let same = o.ask(r) == reply && (t.requests % 64 != 0 || same_state(&o, &b));
+        t.count(r, reply.0, same);
         // numbers run out soon: start again
         if shape == Shape::NumbersOut && t.requests % 2000 == 0 {
             s = Stream::new(shape, seed.wrapping_mul(7_000_003) + t.requests);
@@ -146,7 +167,7 @@ fn made_up(seed: u64, states: u64) -> Tally {
             2 => u64::MAX - r.below(2),
             _ => r.below(1000),
         };
-        let kind = 1 + r.below(5) as u8;
+        let kind = 1 + r.below(6) as u8;
         let mut b = Bounded::of(next, free, numbers, leads, &sets);
         let mut o = Ours::of(State {
             next,
@@ -172,11 +193,9 @@ fn made_up(seed: u64, states: u64) -> Tally {
             job,
         );
         let reply = b.ask(q);
-        t.requests += 1;
-        t.codes[reply.0 as usize] += 1;
-        if o.ask(q) != reply || !same_state(&o, &b) {
-            t.differ += 1;
-        }
+        let before = o.clone();
+        let same = o.ask(q) == reply && same_state(&o, &b);
+        t.count(q, reply.0, same && is_both(&before, q, reply, &o));
     }
     t
 }
@@ -187,8 +206,8 @@ fn show(name: &str, t: &Tally) {
         print!(" {c}");
     }
     println!(
-        ", {} circles through an ended job, {} only by an end before an open, {} differ",
-        t.through_ended, t.by_time, t.differ
+        ", {} circles through an ended job, {} only by an end before an open, {} publishes granted and {} with code 7, {} differ",
+        t.through_ended, t.by_time, t.published, t.barred, t.differ
     );
 }
 
@@ -199,10 +218,12 @@ pub fn run(seed: u64, requests: u64) -> bool {
     let mut codes = [0u64; 8];
     let mut total = 0;
     let mut by_time = 0;
+    let mut without = 0;
     let mut count = |name: String, t: Tally| {
         show(&name, &t);
         total += t.requests;
         by_time += t.by_time;
+        without += (t.published == 0 || t.barred == 0) as u32;
         for (sum, n) in codes.iter_mut().zip(t.codes) {
             *sum += n;
         }
@@ -225,8 +246,8 @@ pub fn run(seed: u64, requests: u64) -> bool {
     }
     count("made-up states".to_string(), made_up(seed, requests / 10));
     println!("{total} requests in all, codes {codes:?}");
-    if codes.iter().any(|&n| n == 0) || by_time == 0 {
-        println!("a code was never given, or no circle came only by an end before an open");
+    if codes.iter().any(|&n| n == 0) || by_time == 0 || without != 0 {
+        println!("a code was never given, or no circle came only by an end before an open, or in some line no publish was granted or none got 7");
         failed += 1;
     } else {
         passed += 1;

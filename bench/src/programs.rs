@@ -126,6 +126,8 @@ struct Tried {
     failed: u32,
     /// How often each verdict was expected.
     codes: [u32; 19],
+    /// How many publishes the trial program was given, and how many of them are granted.
+    published: (u64, u64),
 }
 
 impl Tried {
@@ -350,6 +352,9 @@ impl Tried {
 
     /// From a file.
     fn trial(&mut self, what: &str, input: &[u8]) {
+        let (asked, granted) = publishes(input);
+        self.published.0 += asked;
+        self.published.1 += granted;
         let path = self.file("requests", input);
         let mut command = self.command("trial", &[]);
         let said = command.stdin(std::fs::File::open(path).unwrap()).output();
@@ -425,6 +430,18 @@ fn history(shape: Shape, seed: u64, requests: u64) -> Vec<u8> {
         .collect()
 }
 
+/// The publishes among requests, and those of them that are granted.
+fn publishes(input: &[u8]) -> (u64, u64) {
+    let mut b = Bounded::new(1);
+    let mut sum = (0, 0);
+    for q in input.chunks_exact(8) {
+        let (code, _) = b.ask(q.try_into().unwrap());
+        sum.0 += (q[0] == PUBLISH) as u64;
+        sum.1 += (q[0] == PUBLISH && code == 0) as u64;
+    }
+    sum
+}
+
 pub fn run(programs: &str, seed: u64, logs: u32) -> bool {
     for name in ["checker", "lister", "trial"] {
         let path = Path::new(programs).join(name);
@@ -442,6 +459,7 @@ pub fn run(programs: &str, seed: u64, logs: u32) -> bool {
         passed: 0,
         failed: 0,
         codes: [0; 19],
+        published: (0, 0),
     };
     let r = &mut Random::new(seed.wrapping_mul(17_000_003));
     t.random(r, logs);
@@ -455,6 +473,9 @@ pub fn run(programs: &str, seed: u64, logs: u32) -> bool {
         t.failed += (t.codes[code] == 0) as u32;
     }
     println!();
+    let (asked, granted) = t.published;
+    println!("the trial program was given {asked} publishes, of which {granted} are granted");
+    t.failed += (granted == 0 || granted == asked) as u32;
     println!("{} passed, {} failed", t.passed, t.failed);
     t.failed != 0
 }

@@ -5,6 +5,8 @@ pub const READ: u8 = 2;
 pub const WRITE: u8 = 3;
 pub const END: u8 = 4;
 pub const ABANDON: u8 = 5;
+/// A write and the end of its job.
+pub const PUBLISH: u8 = 6;
 
 pub type Request = [u8; 8];
 
@@ -137,25 +139,25 @@ impl Stream {
         match r.below(6) {
             0 => request(r.next() as u8, 0, r.below(300) as u16, known),
             1 => request(
-                1 + r.below(5) as u8,
+                1 + r.below(6) as u8,
                 1 << r.below(8),
                 r.below(300) as u16,
                 known,
             ),
             2 => request(
-                2 + r.below(2) as u8,
+                [READ, WRITE, PUBLISH][r.below(3) as usize],
                 0,
                 256 + r.below(65280) as u16,
                 if r.one_in(2) { known } else { r.next() as u32 },
             ),
             3 => request(
-                2 + r.below(4) as u8,
+                2 + r.below(5) as u8,
                 0,
                 r.below(256) as u16,
                 r.next() as u32,
             ),
             4 => request(
-                2 + r.below(4) as u8,
+                2 + r.below(5) as u8,
                 0,
                 r.below(256) as u16,
                 known.wrapping_sub(1 + r.below(9) as u32),
@@ -194,6 +196,9 @@ impl Stream {
                 Shape::Abandons => r.one_in(2),
                 _ => r.one_in(6),
             };
+            if !abandon && r.one_in(2) {
+                return request(PUBLISH, 0, r.below(cells) as u16, job);
+            }
             return request(
                 if abandon { ABANDON } else { END },
                 0,
@@ -220,7 +225,7 @@ impl Stream {
         }
         match self.last[0] {
             OPEN => self.open.push(job),
-            END | ABANDON => self.open.retain(|&j| j != job),
+            END | ABANDON | PUBLISH => self.open.retain(|&j| j != job),
             _ => {}
         }
     }

@@ -18,6 +18,7 @@ fn kind_of(word: &str) -> u8 {
         "write" => WRITE,
         "end" => END,
         "abandon" => ABANDON,
+        "publish" => PUBLISH,
         w => number(w),
     }
 }

@@ -2,7 +2,7 @@
 //! history with the step have no circle. Slow, and meant to be.
 use crate::requests::*;
 
-/// What was granted: an open with the number it got, a step with its cell, an end.
+/// What was granted: an open with the number it got, a step with its cell, an end. A publish is its write and its end.
 #[derive(Clone, Copy, PartialEq)]
 struct Granted {
     kind: u8,
@@ -107,6 +107,11 @@ impl Whole {
         (0, job)
     }
 
+    fn end(&mut self, job: u32) -> (u32, u32) {
+        self.ended.push(job);
+        self.grant(END, job, 0)
+    }
+
     pub fn ask(&mut self, r: Request) -> (u32, u32) {
         if r[1] != 0 {
             return (1, 0);
@@ -126,25 +131,29 @@ impl Whole {
                 self.opened.push(number);
                 self.grant(OPEN, number, 0)
             }
-            READ | WRITE => {
+            READ | WRITE | PUBLISH => {
                 if cell > 255 {
                     return (2, 0);
                 }
                 if !self.is_open(job) {
                     return (3, 0);
                 }
-                let (kind, cell) = (r[0], cell as u8);
+                let kind = if r[0] == READ { READ } else { WRITE };
+                let cell = cell as u8;
                 if self.closes(Granted { kind, job, cell }) {
                     return (7, 0);
                 }
-                self.grant(kind, job, cell)
+                self.grant(kind, job, cell);
+                if r[0] == PUBLISH {
+                    self.end(job);
+                }
+                (0, job)
             }
             END => {
                 if !self.is_open(job) {
                     return (3, 0);
                 }
-                self.ended.push(job);
-                self.grant(END, job, 0)
+                self.end(job)
             }
             ABANDON => {
                 if !self.is_open(job) {

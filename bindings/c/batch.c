@@ -58,8 +58,8 @@ int main(void)
     uint8_t one[8];
     reedtangle_start(&ours, 1);
     for (size_t n = 0; n < batches; n++) {
-        /* some opens and ends between batches, so that 8 to 32 jobs are open */
-        put(one, drawn(3) == 0 ? REEDTANGLE_END : REEDTANGLE_OPEN, 0, (uint32_t)ours.next > 20 ? (uint32_t)ours.next - 1 - drawn(20) : 1);
+        /* some opens, ends and publishes between batches, so that 8 to 32 jobs are open */
+        put(one, drawn(3) == 0 ? (drawn(2) == 0 ? REEDTANGLE_END : REEDTANGLE_PUBLISH) : REEDTANGLE_OPEN, drawn(40), (uint32_t)ours.next > 20 ? (uint32_t)ours.next - 1 - drawn(20) : 1);
         step(&ours, one);
         size_t items = drawn(8) == 0 ? drawn(70) : drawn(12), length = 8 * items;
         for (size_t i = 0; i < items; i++) {

@@ -27,22 +27,20 @@ static uint32_t drawn(uint64_t *seed, uint32_t below)
     return (uint32_t)(*seed >> 33) % below;
 }
 
-/* Opens while fewer than `most` were opened and not ended; then reads, writes and ends of jobs that were opened. */
+/* Opens while fewer than `most` are open; then reads, writes, ends and publishes of open jobs. A state of its own, asked on the usual stack, tells which are. */
 static void draw(uint64_t seed, uint32_t most)
 {
-    uint32_t jobs[REEDTANGLE_SLOTS], held = 0, next = 1;
+    static reedtangle_state state;
+    uint32_t jobs[REEDTANGLE_SLOTS], held = 0;
+    reedtangle_start(&state, 1);
     for (size_t i = 0; i < REQUESTS; i++) {
-        uint32_t what = drawn(&seed, 100), kind, job = 0, cell = drawn(&seed, 64);
+        uint32_t what = drawn(&seed, 100), kind, job = 0, at = 0, cell = drawn(&seed, 64);
         if (held < most && (held == 0 || what < 40)) {
             kind = REEDTANGLE_OPEN;
-            jobs[held++] = next++;
         } else {
-            uint32_t at = drawn(&seed, held);
+            at = drawn(&seed, held);
             job = jobs[at];
-            kind = what < 80 ? REEDTANGLE_READ : what < 94 ? REEDTANGLE_WRITE : REEDTANGLE_END;
-            if (kind == REEDTANGLE_END) {
-                jobs[at] = jobs[--held];
-            }
+            kind = what < 80 ? REEDTANGLE_READ : what < 94 ? REEDTANGLE_WRITE : what < 97 ? REEDTANGLE_END : REEDTANGLE_PUBLISH;
         }
         uint8_t *r = requests + 8 * i;
         r[0] = (uint8_t)kind;
@@ -53,6 +51,12 @@ static void draw(uint64_t seed, uint32_t most)
         r[5] = (uint8_t)(job >> 8);
         r[6] = (uint8_t)(job >> 16);
         r[7] = (uint8_t)(job >> 24);
+        reedtangle_reply reply = reedtangle_ask(&state, r);
+        if (reply.code == REEDTANGLE_GRANTED && kind == REEDTANGLE_OPEN) {
+            jobs[held++] = reply.job;
+        } else if (reply.code == REEDTANGLE_GRANTED && (kind == REEDTANGLE_END || kind == REEDTANGLE_PUBLISH)) {
+            jobs[at] = jobs[--held];
+        }
     }
 }
 
@@ -114,7 +118,7 @@ static void trial(uint32_t most)
     pthread_join(thread, NULL);
     ask(&outside);
 
-    size_t untouched = 0, circles = 0, grants = 0, open = 0, most_open = 0;
+    size_t untouched = 0, circles = 0, grants = 0, published = 0, open = 0, most_open = 0;
     while (untouched < STACK && stack[untouched] == 0x5a) {
         untouched += 1;
     }
@@ -133,16 +137,17 @@ static void trial(uint32_t most)
         if (code == REEDTANGLE_GRANTED && requests[8 * i] == REEDTANGLE_OPEN) {
             open += 1;
         }
-        if (code == REEDTANGLE_GRANTED && requests[8 * i] == REEDTANGLE_END) {
+        if (code == REEDTANGLE_GRANTED && (requests[8 * i] == REEDTANGLE_END || requests[8 * i] == REEDTANGLE_PUBLISH)) {
             open -= 1;
+            published += requests[8 * i] == REEDTANGLE_PUBLISH;
         }
         most_open = open > most_open ? open : most_open;
     }
-    printf("      %d requests, %zu granted, %zu with code 7, %zu open at most, %zu bytes of the stack used, the thread's own among them\n", REQUESTS, grants, circles, most_open, STACK - untouched);
+    printf("      %d requests, %zu granted, %zu of them publishes, %zu with code 7, %zu open at most, %zu bytes of the stack used, the thread's own among them\n", REQUESTS, grants, published, circles, most_open, STACK - untouched);
     tell(answers, "each answer is the one given on the usual stack");
     tell(same_state(), "and so is the state in the end");
     tell(replays, "and replay gives the same answers");
-    tell(circles > 100 && grants > 1000 && most_open == most, "circles, grants and slots enough to tell");
+    tell(circles > 100 && grants > 1000 && published > 100 && most_open == most, "circles, grants, publishes and slots enough to tell");
     tell(untouched >= 4096, "a quarter of the stack was never used");
     munmap(memory, (size_t)page + STACK);
 }

@@ -130,11 +130,17 @@ pub mod request {
     pub const fn abandon(job: Job) -> [u8; 8] {
         of(5, 0, job.0)
     }
+
+    /// A write of a cell and the end of its job in one request. Granted exactly when the write is; where it is refused the job stays open.
+    pub const fn publish(job: Job, cell: u8) -> [u8; 8] {
+        of(6, cell as u16, job.0)
+    }
 }
 
 /// The record of a request that was granted with this job. A log is such records, one after another, of all that was granted.
 ///
-/// An open has the number issued in its record, and only reads and writes have a cell.
+/// An open has the number issued in its record, and only reads and writes have a cell. Not for a publish, which has two: [`records`] makes those of any
+/// request.
 pub const fn record(request: [u8; 8], granted: Job) -> [u8; 8] {
     let cell = match request[0] {
         2 | 3 => u16::from_le_bytes([request[2], request[3]]),
@@ -143,14 +149,26 @@ pub const fn record(request: [u8; 8], granted: Job) -> [u8; 8] {
     request::of(request[0], cell, granted.0)
 }
 
+/// The bytes of the records of a request that was granted with this job: eight, or sixteen for a publish, its write and its end.
+pub fn records(request: [u8; 8], granted: Job) -> impl Iterator<Item = u8> {
+    let mut first = request;
+    let mut last = None;
+    if request[0] == 6 {
+        first[0] = 3;
+        last = Some(request::end(granted));
+    }
+    let first = record(first, granted);
+    first.into_iter().chain(last.into_iter().flatten())
+}
+
 // ---- the arbiter
 
 /// Why a request was refused.
 #[derive(Clone, Copy, PartialEq, Eq, Hash, Debug)]
 pub enum Refusal {
-    /// 1: the kind is none of 1 to 5, or byte 1 is not 0.
+    /// 1: the kind is none of 1 to 6, or byte 1 is not 0.
     Malformed = 1,
-    /// 2: the cell of a read or write is 256 or more.
+    /// 2: the cell of a read, write or publish is 256 or more.
     NoCell = 2,
     /// 3: the asking job is not open.
     NotOpen = 3,
@@ -160,7 +178,7 @@ pub enum Refusal {
     Full = 5,
     /// 6: an open after job number 4,294,967,295 was issued.
     Spent = 6,
-    /// 7: with this read or write no order of the jobs would do.
+    /// 7: with this read, or this write, a publish's too, no order of the jobs would do.
     Circle = 7,
 }
 
@@ -272,7 +290,8 @@ impl Arbiter {
     /// the state.
     ///
     /// From a fresh state each answer is the one that the whole history gives: a read or write of an open job on a real cell gets
-    /// [`Refusal::Circle`] exactly when no order of the jobs would do with it.
+    /// [`Refusal::Circle`] exactly when no order of the jobs would do with it. A publish is granted exactly when its write is, and leaves the
+    /// state that the write and the end of the job leave.
     #[inline]
     pub fn ask(&mut self, request: [u8; 8]) -> Result<Job, Refusal> {
         let (code, job) = self.answer(request);
@@ -323,6 +342,11 @@ impl Arbiter {
     /// Asks to abandon a job.
     pub fn abandon(&mut self, job: Job) -> Result<Job, Refusal> {
         self.ask(request::abandon(job))
+    }
+
+    /// Asks to write a cell and end the job, in one request.
+    pub fn publish(&mut self, job: Job, cell: u8) -> Result<Job, Refusal> {
+        self.ask(request::publish(job, cell))
     }
 }
 

@@ -18,7 +18,7 @@ use Rattle.graph.specs.Lists.{_∈_}
 use Rattle.marks.specs.Marks.{bit, mask-of, without, tab}
 use Rattle.history.specs.Events.{has}
 use Rattle.history.specs.Replies.{most-open, Request, Reply, want, tests, code-of, job-of, reply-of}
-use Rattle.history.specs.Cases.{open-one, reads, writes, end, abandon, granted, refused, Exchange, _gets_, opens-from, Case, requests-of, replies-of, p-table, own-table, rows}
+use Rattle.history.specs.Cases.{open-one, reads, writes, end, abandon, publishes, granted, refused, Exchange, _gets_, opens-from, Case, requests-of, replies-of, p-table, own-table, rows}
 use Rattle.held.specs.Held.{Held, word-marks, set-words, row-words, all-words, fresh-held, number-at, leads-at, word-at, open-at, open-slots, cell-at, slot-of, meets, touched, chain-back, altered, facts, has-past, opened-at, stepped-at, left-at, ended-at, abandoned-at, free-slot, moved, answer-to, after, answers, after-all}
 
 -- ---- the cases of the full history
@@ -37,7 +37,7 @@ held-p-cases c = rows held-answers replies-of (refl, (refl, (refl, (refl, (refl,
 
 pub held-own-cases : (c : Case) → c ∈ own-table → answers (fresh-held (c .first)) (requests-of c) ≡ replies-of c
 unfolding held-answers
-held-own-cases c = rows held-answers replies-of (refl, (refl, (refl, (refl, (refl, (refl, (refl, (refl, tt))))))))
+held-own-cases c = rows held-answers replies-of (refl, (refl, (refl, (refl, (refl, (refl, (refl, (refl, (refl, tt)))))))))
 
 pub held-cases : (c : Case) → c ∈ p-table ++ own-table → answers (fresh-held (c .first)) (requests-of c) ≡ replies-of c
 held-cases c m = ⊎-elim (held-p-cases c) (held-own-cases c) (List·Memᴰ·append-cases p-table m)
@@ -105,14 +105,14 @@ last-number =
       slots = some 0 ∷ some 30 ∷ none ∷ [];
     }
 
--- 1 before all: a kind that is not 1 to 5, or byte 1 not zero, whatever else is wrong or right
+-- 1 before all: a kind that is not 1 to 6, or byte 1 not zero, whatever else is wrong or right
 abbrev pub code-one : Tried
 code-one =
     record {
       first = 1;
       exchanges =
           open-one gets granted 1
-          ∷ request 0 0 5 1 gets refused 1 ∷ request 6 0 5 1 gets refused 1 ∷ request 255 0 5 1 gets refused 1
+          ∷ request 0 0 5 1 gets refused 1 ∷ request 7 0 5 1 gets refused 1 ∷ request 255 0 5 1 gets refused 1
           ∷ request 9 1 5 1 gets refused 1 ∷ request 2 1 256 8 gets refused 1
           ∷ request 1 1 0 0 gets refused 1 ∷ request 3 128 5 1 gets refused 1
           ∷ request 4 1 0 1 gets refused 1 ∷ request 5 255 0 1 gets refused 1 ∷ [];
@@ -260,6 +260,16 @@ one-number-ended =
       left = state 9 (2 ∷ []) (bare 7 [] ∷ blank ∷ bare 7 [] ∷ []);
     }
 
+-- and a publish of it writes and ends the lower: the higher slot comes to lead to it, and takes its write over
+abbrev pub one-number-published : MadeUp
+one-number-published =
+    record {
+      before = state 9 (1 ∷ 2 ∷ []) (bare 7 [] ∷ bare 7 [] ∷ with-own 7 [] (5 ∷ []) [] ∷ []);
+      asked = publishes 7 5;
+      answered = granted 7;
+      left = state 9 (2 ∷ []) (bare 7 [] ∷ blank ∷ record { number = 7; leads = []; own-reads = 5 ∷ []; own-writes = []; past-reads = []; past-writes = 5 ∷ [] } ∷ []);
+    }
+
 -- a number held only by a slot that is not open
 abbrev pub number-not-open : MadeUp
 number-not-open = refusal (state 9 (1 ∷ []) (bare 7 [] ∷ bare 8 [] ∷ [])) (end 7) 3
@@ -279,6 +289,10 @@ leads-to-itself-ends =
       answered = granted 7;
       left = state 9 (1 ∷ []) (blank ∷ bare 8 [] ∷ []);
     }
+
+-- and a publish is refused as its write is: the slot stays open
+abbrev pub leads-to-itself-publishes : MadeUp
+leads-to-itself-publishes = refusal (state 9 (0 ∷ 1 ∷ []) (bare 7 (0 ∷ []) ∷ bare 8 [] ∷ [])) (publishes 7 5) 7
 
 -- an old circle through the asking slot gives 7 though the read adds nothing
 abbrev pub old-circle : MadeUp
@@ -387,6 +401,27 @@ end-hands-on =
           );
     }
 
+-- a publish hands on what its slot has after the write, to the slots that lead to it after the write: slot 1 has read the cell, and slot 3, not open, takes nothing over
+abbrev pub publish-hands-on : MadeUp
+publish-hands-on =
+    record {
+      before =
+          state 9 (0 ∷ 1 ∷ 2 ∷ [])
+          (
+          record { number = 5; leads = 2 ∷ []; own-reads = 5 ∷ []; own-writes = []; past-reads = []; past-writes = 255 ∷ [] }
+          ∷ with-own 6 [] (6 ∷ []) [] ∷ bare 7 [] ∷ with-own 8 [] (6 ∷ []) [] ∷ []
+          );
+      asked = publishes 5 6;
+      answered = granted 5;
+      left =
+          state 9 (1 ∷ 2 ∷ [])
+          (
+          blank
+          ∷ record { number = 6; leads = 2 ∷ []; own-reads = 6 ∷ []; own-writes = []; past-reads = 5 ∷ []; past-writes = 6 ∷ 255 ∷ [] }
+          ∷ bare 7 [] ∷ with-own 8 [] (6 ∷ []) [] ∷ []
+          );
+    }
+
 -- an abandon hands nothing on, and strikes its mark in every row, open or not; writes in the past do not bar it
 abbrev pub abandon-strikes : MadeUp
 abandon-strikes =
@@ -408,15 +443,15 @@ abandon-barred = refusal (state 9 (0 ∷ []) (with-own 6 [] [] (255 ∷ []) ∷ 
 
 abbrev pub made-up-table : List MadeUp
 made-up-table =
-    one-number-twice ∷ one-number-ended ∷ number-not-open
-    ∷ leads-to-itself ∷ leads-to-itself-cell ∷ leads-to-itself-ends ∷ old-circle ∷ circle-beside
+    one-number-twice ∷ one-number-ended ∷ one-number-published ∷ number-not-open
+    ∷ leads-to-itself ∷ leads-to-itself-cell ∷ leads-to-itself-ends ∷ leads-to-itself-publishes ∷ old-circle ∷ circle-beside
     ∷ held-and-new ∷ past-of-asker ∷ past-of-other ∷ not-open-ignored
-    ∷ past-last-number ∷ open-blanks ∷ open-led-to ∷ end-hands-on ∷ abandon-strikes ∷ abandon-barred ∷ []
+    ∷ past-last-number ∷ open-blanks ∷ open-led-to ∷ end-hands-on ∷ publish-hands-on ∷ abandon-strikes ∷ abandon-barred ∷ []
 
 -- every made-up state of the table gives the answer as written
 pub made-up-answers : (m : MadeUp) → m ∈ made-up-table → answer-to (held-of (m .before)) (m .asked) ≡ m .answered
 unfolding made-up-answer
-made-up-answers m = rows made-up-answer (λ m. m .answered) (refl, (refl, (refl, (refl, (refl, (refl, (refl, (refl, (refl, (refl, (refl, (refl, (refl, (refl, (refl, (refl, (refl, (refl, tt))))))))))))))))))
+made-up-answers m = rows made-up-answer (λ m. m .answered) (refl, (refl, (refl, (refl, (refl, (refl, (refl, (refl, (refl, (refl, (refl, (refl, (refl, (refl, (refl, (refl, (refl, (refl, (refl, (refl, (refl, tt)))))))))))))))))))))
 
 -- the rows whose next state is compared here: those by which a wrong move is told that no answer of the tables above tells
 abbrev pub moved-table : List MadeUp

@@ -19,7 +19,7 @@ use Rattle.graph.specs.Reach.{reach}
 use Rattle.marks.specs.Marks.{bit, mask-of, without, tab, upto}
 use Rattle.marks.specs.Words.{empty}
 use Rattle.history.specs.Events.{Kind, read, write, kinds, alters, kinds-clash}
-use Rattle.history.specs.Replies.{most-open, Request, Reply, Want, an-open, a-step, an-end, an-abandon, nothing, want, Facts, code-of, reply-of}
+use Rattle.history.specs.Replies.{most-open, Request, Reply, Want, an-open, a-step, an-end, an-abandon, a-publish, nothing, want, Facts, code-of, reply-of}
 
 pub record Held : Type 0 where
   pub next : ℕ
@@ -204,11 +204,13 @@ with-slot (some s) f h = f s
 unfoldable pub free-slot : Held → Option ℕ
 free-slot h = first-in (only (bit (h .free)) (upto most-open))
 
+-- a publish is the step of a write and then the end, at the same slot
 unfoldable pub moved : Held → Want → ℕ → ℕ → Held
 moved h an-open j c = with-slot (free-slot h) (λ s. opened-at h s) h
 moved h (a-step k) j c = with-slot (slot-of h j) (λ s. stepped-at h k s c) h
 moved h an-end j c = with-slot (slot-of h j) (λ s. ended-at h s) h
 moved h an-abandon j c = with-slot (slot-of h j) (λ s. abandoned-at h s) h
+moved h a-publish j c = with-slot (slot-of h j) (λ s. ended-at (stepped-at h write s c) s) h
 moved h nothing j c = h
 
 -- the answer to a request, and the next state: moved by a grant, and as it was after a refusal

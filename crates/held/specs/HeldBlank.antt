@@ -1,10 +1,11 @@
 -- What every request keeps of a state, whatever the state holds: the ranges of its numbers (`ranges-after`), and that rows which are not open are blank
 -- (`blank-after`). From a fresh state both hold through any list of requests (`ranges-kept`, `blank-rows`). And the slot that an open takes
--- (`lowest-slot`), and that a refusal leaves the state as it was (`refusal-held`).
+-- (`lowest-slot`), that a refusal leaves the state as it was (`refusal-held`), and that a publish leaves what its write and its end leave (`publish-held`).
 -- Assumes nothing.
 use mathlib.Core.Path.{_≡_, refl, sym, ap, _∙_, subst}
 use mathlib.Core.Logic.{⊎-elim}
 use mathlib.Core.Bool.{Bool, true, false, not, _&&_, _||_, cond}
+use mathlib.Core.Option.{Option, none, some}
 use mathlib.Core.List.{List, [], _∷_, List·Memᴰ·cases-cons}
 use Prim.Native.Nat.{ℕ, _+_, _*_, _^_, _≤_, _<_}
 use native.Mathlib.Omega.{arith}
@@ -12,14 +13,15 @@ use lib.Bits.{or-lt, and-lt}
 use lib.Dec.{T, leb, eqb}
 use lib.ListN.{length}
 use lib.Pow.{pow-lt}
-use Rattle.graph.specs.Decide.{not-test, test-true, test-false, eq-test, answer, T-and, is-false, false-is, chosen, cond-below, cond-zero}
+use Rattle.graph.specs.Decide.{not-test, test-true, test-false, eq-test, answer, T-and, is-true, is-false, false-is, chosen, cond-below, cond-zero}
 use Rattle.graph.specs.Lists.{_∈_, here, only, only-keeps, only-from, only-both, Before, before-from-only}
 use Rattle.marks.specs.Marks.{bit, mask-of, without, upto}
 use Rattle.marks.specs.MarkLaws.{length-tab, upto-has, upto-from, upto-rises, bit-zero, bit-pow, or-unmarked, and-unmarked, without-below, without-zero, without-struck, without-unmarked, mask-lt}
-use Rattle.history.specs.Events.{Kind}
-use Rattle.history.specs.Replies.{cells, most-open, numbers, Request, Want, an-open, want, first-of, tests, code-of}
-use Rattle.history.specs.Granted.{below-bound, passed}
-use Rattle.held.specs.Held.{Held, row-words, past-place, all-words, fresh-held, number-at, leads-at, word-at, open-at, open-slots, touched, first-in, facts, has-past, opened-at, stepped-at, left-at, with-slot, free-slot, moved, after, after-all}
+use Rattle.history.specs.Events.{Kind, write}
+use Rattle.history.specs.Replies.{cells, most-open, numbers, Request, Want, an-open, a-step, an-end, a-publish, want, first-of, tests, code-of}
+use Rattle.history.specs.ReplyLaws.{as-kind, publish-reply}
+use Rattle.history.specs.Granted.{below-bound, passed, undenied, proper-step}
+use Rattle.held.specs.Held.{Held, row-words, past-place, all-words, fresh-held, number-at, leads-at, word-at, open-at, open-slots, touched, first-in, is-some, slot-of, facts, has-past, opened-at, stepped-at, left-at, ended-at, with-slot, free-slot, moved, answer-to, after, after-all}
 use Rattle.held.specs.HeldMoves.{own-word, read-tab, number-opened, leads-opened, leads-stepped, number-left, leads-left, row-opened, row-stepped, row-left, Fits, fresh-fits, opened-fits, stepped-fits, left-fits, Moves, kept-after, kept-after-all}
 use Rattle.held.specs.HeldLaws.{own-inside, opened-open-at, left-open-at}
 
@@ -98,7 +100,7 @@ ranges-moves r = record { opens = λ s q f small. ranges-opened r s q small; ste
 
 -- every request, whatever its fields, keeps the ranges of every state, whatever it holds
 pub ranges-after : {h : Held} → Ranges h → (r : Request) → Ranges (after h r)
-ranges-after {h} g r = kept-after Ranges h g (ranges-moves g) r
+ranges-after {h} g r = kept-after Ranges (λ x f. ranges-moves f) h g r
 
 -- a fresh state is in range
 pub ranges-fresh : (first : ℕ) → first < 2 ^ 64 → Ranges (fresh-held first)
@@ -125,7 +127,7 @@ Issuable h = h .next ≤ numbers
 
 pub next-kept : (h : Held) → h .next ≤ numbers → (r : Request) → after h r .next ≤ numbers
 unfolding opened-at stepped-at left-at
-next-kept h g r = kept-after Issuable h g (record { opens = λ s q f small. small; steps = λ k s c q o real. g; leaves = λ t s q o only-open. g }) r
+next-kept h g r = kept-after Issuable (λ x b. record { opens = λ s q f small. small; steps = λ k s c q o real. b; leaves = λ t s q o only-open. b }) h g r
 
 -- ---- blank rows
 
@@ -255,7 +257,7 @@ blank-moves b =
 
 -- every request keeps the rows blank that are not open
 pub blank-after : {h : Held} → Blank h → (r : Request) → Blank (after h r)
-blank-after {h} b r = kept-after Blank h b (blank-moves b) r
+blank-after {h} b r = kept-after Blank (λ x f. blank-moves f) h b r
 
 -- every row of a fresh state is blank
 pub blank-fresh : (first : ℕ) → Blank (fresh-held first)
@@ -324,3 +326,79 @@ lowest-slot h r z e =
 pub refusal-held : (h : Held) (r : Request) → (code-of (facts h) r ≡ 0 → ⊥) → after h r ≡ h
 unfolding after
 refusal-held h r f = ap (λ (b : Bool). cond b (moved h (want (r .kind)) (r .job) (r .cell)) h) (test-false (eq-test (code-of (facts h) r) 0) f)
+
+-- ---- a publish
+
+-- a publish (kind 6) gets the answer that the write (kind 3) of that cell by that job gets. Granted, it leaves the state that the write and then the end (kind 4) leave, and
+-- the end is granted there; refused, it leaves the state as it was, as the write does
+pub record PublishedHeld (h : Held) (r : Request) : Type 0 where
+  pub as-the-write : answer-to h (as-kind 6 r) ≡ answer-to h (as-kind 3 r)
+  pub end-next : code-of (facts h) (as-kind 6 r) ≡ 0 → code-of (facts (after h (as-kind 3 r))) (as-kind 4 r) ≡ 0
+  pub both : code-of (facts h) (as-kind 6 r) ≡ 0 → after h (as-kind 6 r) ≡ after (after h (as-kind 3 r)) (as-kind 4 r)
+  pub neither : (code-of (facts h) (as-kind 6 r) ≡ 0 → ⊥) → (after h (as-kind 6 r) ≡ h) × (after h (as-kind 3 r) ≡ h)
+
+-- what a granted request leaves
+granted-held : (h : Held) (r : Request) (w : Want) → want (r .kind) ≡ w → code-of (facts h) r ≡ 0 → after h r ≡ moved h w (r .job) (r .cell)
+unfolding after
+granted-held h r w asks z =
+    ap (λ (n : ℕ). cond (eqb n 0) (moved h (want (r .kind)) (r .job) (r .cell)) h) z ∙ ap (λ (v : Want). moved h v (r .job) (r .cell)) asks
+
+-- a slot that there is
+the-slot : (o : Option ℕ) → T (is-some o) → (s : ℕ) × (o ≡ some s)
+the-slot none t = absurd t
+the-slot (some s) t = (s, refl)
+
+module _ (h : Held) (r : Request) where
+  write-code : code-of (facts h) (as-kind 6 r) ≡ code-of (facts h) (as-kind 3 r)
+  unfolding code-of tests want
+  write-code = refl
+
+  module _ (z : code-of (facts h) (as-kind 6 r) ≡ 0) where
+    -- byte 1 is zero, and there is a slot
+    unmarked-byte : T (eqb (r .byte1) 0)
+    unfolding code-of
+    unmarked-byte = undenied (eqb (r .byte1) 0) (passed (not (eqb (r .byte1) 0)) 0 _ z .0)
+
+    found : (s : ℕ) × (slot-of h (r .job) ≡ some s)
+    unfolding code-of tests want facts
+    found = the-slot (slot-of h (r .job)) (proper-step (facts h) write (r .job) (r .cell) (passed (not (eqb (r .byte1) 0)) 0 _ z .1) .0)
+
+    abbrev written : Held
+    written = stepped-at h write (found .0) (r .cell)
+
+    -- the write's step leaves the number where it was
+    slot-stays : slot-of written (r .job) ≡ some (found .0)
+    slot-stays = same ∙ found .1
+      where
+        same : slot-of (stepped-at h write (found .0) (r .cell)) (r .job) ≡ slot-of h (r .job)
+        same = unfold slot-of open-slots open-at number-at stepped-at in refl
+
+    write-left : after h (as-kind 3 r) ≡ written
+    unfolding moved
+    write-left =
+        granted-held h (as-kind 3 r) (a-step write) (unfold want in refl) (sym write-code ∙ z)
+        ∙ ap (λ (o : Option ℕ). with-slot o (λ s. stepped-at h write s (r .cell)) h) (found .1)
+
+    ends-next : code-of (facts written) (as-kind 4 r) ≡ 0
+    unfolding code-of tests want facts
+    ends-next =
+        ap (λ (b : Bool). cond (not b) 1 (cond (not (is-some (slot-of written (r .job)))) 3 0)) (is-true {b = eqb (r .byte1) 0} unmarked-byte)
+        ∙ ap (λ (o : Option ℕ). cond (not (is-some o)) 3 0) slot-stays
+
+    publish-left : after h (as-kind 6 r) ≡ after written (as-kind 4 r)
+    unfolding moved
+    publish-left =
+        granted-held h (as-kind 6 r) a-publish (unfold want in refl) z
+        ∙ ap (λ (o : Option ℕ). with-slot o (λ s. ended-at (stepped-at h write s (r .cell)) s) h) (found .1)
+        ∙ sym (ap (λ (o : Option ℕ). with-slot o (λ s. ended-at written s) written) slot-stays)
+        ∙ sym (granted-held written (as-kind 4 r) an-end (unfold want in refl) ends-next)
+
+-- for any state, whatever it holds, and any request
+pub publish-held : (h : Held) (r : Request) → PublishedHeld h r
+publish-held h r =
+    record {
+      as-the-write = unfold answer-to in publish-reply (facts h) r;
+      end-next = λ z. ap (λ (x : Held). code-of (facts x) (as-kind 4 r)) (write-left h r z) ∙ ends-next h r z;
+      both = λ z. publish-left h r z ∙ ap (λ (x : Held). after x (as-kind 4 r)) (sym (write-left h r z));
+      neither = λ n. (refusal-held h (as-kind 6 r) n, refusal-held h (as-kind 3 r) (λ z. n (write-code h r ∙ z)));
+    }

@@ -1,5 +1,5 @@
 -- A moved state read slot by slot and word by word; that every move leaves words that fit (`Fits`); and the three moves that a request can make: an open
--- into a free slot, a step of an open slot, an open slot left by an end or an abandon. What the three keep, every request keeps (`kept-after`), whatever the state holds.
+-- into a free slot, a step of an open slot, an open slot left by an end or an abandon; a publish makes the last two. What the three keep, every request keeps (`kept-after`), whatever the state holds.
 -- Assumes nothing.
 use mathlib.Core.Path.{_≡_, ap, ap₂, _∙_}
 use mathlib.Core.Bool.{Bool, false, not, _&&_, cond}
@@ -15,8 +15,8 @@ use Rattle.graph.specs.Decide.{by-test, eq-test, T-and-left, cond-below}
 use Rattle.graph.specs.Lists.{_∈_, here, only, only-from}
 use Rattle.marks.specs.Marks.{bit, mask-of, without, tab, upto}
 use Rattle.marks.specs.MarkLaws.{getD-tab, upto-from}
-use Rattle.history.specs.Events.{Kind}
-use Rattle.history.specs.Replies.{cells, most-open, numbers, Request, Want, an-open, a-step, an-end, an-abandon, nothing, want, first-of, tests, code-of}
+use Rattle.history.specs.Events.{Kind, write}
+use Rattle.history.specs.Replies.{cells, most-open, numbers, Request, Want, an-open, a-step, an-end, an-abandon, a-publish, nothing, want, first-of, tests, code-of}
 use Rattle.history.specs.Granted.{below-bound, passed}
 use Rattle.held.specs.Held.{Held, word-marks, row-words, past-place, all-words, fresh-held, number-at, leads-at, word-at, open-at, open-slots, set-place, touched, first-in, slot-of, facts, has-past, opened-at, stepped-at, left-at, ended-at, abandoned-at, with-slot, free-slot, moved, after, after-all}
 
@@ -148,7 +148,7 @@ first-cases : (P : Option ℕ → Type 0) (l : List ℕ) → P none → ((s : �
 first-cases P [] n f = n
 first-cases P (s ∷ l) n f = f s here
 
-module _ (P : Held → Type 0) (h : Held) (p : P h) (m : Moves P h) where
+module _ (P : Held → Type 0) (m : (h : Held) → P h → Moves P h) (h : Held) (p : P h) where
   -- what is done at the slot that a number means
   kept-at : (j : ℕ) (f : ℕ → Held) → ((s : ℕ) → s < most-open → T (open-at h s) → P (f s)) → P (with-slot (slot-of h j) f h)
   unfolding slot-of open-slots
@@ -165,14 +165,20 @@ module _ (P : Held → Type 0) (h : Held) (p : P h) (m : Moves P h) where
       first-cases (λ o. P (with-slot o (λ s. opened-at h s) h)) (only (bit (h .free)) (upto most-open)) p
       (λ s n.
       let r = only-from (bit (h .free)) (upto most-open) n in
-      m .opens s (upto-from most-open (r .0)) (r .1) (below-bound numbers (h .next) (passed (leb numbers (h .next)) 5 _ z .0)))
-  kept-moved (a-step k) j c z = kept-at j (λ s. stepped-at h k s c) (λ s q o. m .steps k s c q o (below-bound cells c (passed (leb cells c) 1 _ z .0)))
+      m h p .opens s (upto-from most-open (r .0)) (r .1) (below-bound numbers (h .next) (passed (leb numbers (h .next)) 5 _ z .0)))
+  kept-moved (a-step k) j c z = kept-at j (λ s. stepped-at h k s c) (λ s q o. m h p .steps k s c q o (below-bound cells c (passed (leb cells c) 1 _ z .0)))
   kept-moved an-end j c z =
-      kept-at j (λ s. left-at h _ s) (λ s q o. m .leaves _ s q o (λ i t. T-and-left (open-at h i) (not (eqb i s) && bit (leads-at h i) s) t))
-  kept-moved an-abandon j c z = kept-at j (λ s. left-at h (λ i. false) s) (λ s q o. m .leaves (λ i. false) s q o (λ i t. absurd t))
+      kept-at j (λ s. left-at h _ s) (λ s q o. m h p .leaves _ s q o (λ i t. T-and-left (open-at h i) (not (eqb i s) && bit (leads-at h i) s) t))
+  kept-moved an-abandon j c z = kept-at j (λ s. left-at h (λ i. false) s) (λ s q o. m h p .leaves (λ i. false) s q o (λ i t. absurd t))
+  kept-moved a-publish j c z =
+      kept-at j (λ s. left-at (stepped-at h write s c) _ s)
+      (λ s q o.
+      let w = stepped-at h write s c in
+      let v : P w = m h p .steps write s c q o (below-bound cells c (passed (leb cells c) 1 _ z .0)) in
+      m w v .leaves _ s q (unfold open-at stepped-at in o) (λ i t. T-and-left (open-at w i) (not (eqb i s) && bit (leads-at w i) s) t))
   kept-moved nothing j c z = p
 
-  -- a request makes one of the moves, or none
+  -- a request makes one of the moves, a publish two of them, or none
   pub kept-after : (r : Request) → P (after h r)
   unfolding after code-of
   kept-after r =
@@ -182,4 +188,4 @@ module _ (P : Held → Type 0) (h : Held) (p : P h) (m : Moves P h) where
 -- and so a list of them
 pub kept-after-all : (P : Held → Type 0) → ((h : Held) → P h → Moves P h) → (h : Held) → P h → (rs : List Request) → P (after-all h rs)
 kept-after-all P m h p [] = p
-kept-after-all P m h p (r ∷ rs) = kept-after-all P m (after h r) (kept-after P h p (m h p) r) rs
+kept-after-all P m h p (r ∷ rs) = kept-after-all P m (after h r) (kept-after P m h p r) rs

@@ -20,8 +20,8 @@ use Rattle.marks.specs.Marks.{bit, upto}
 use Rattle.marks.specs.MarkLaws.{getD-tab, tab-member, upto-has, upto-from, bit-zero, bit-others}
 use Rattle.marks.specs.Words.{marked, empty}
 use Rattle.marks.specs.WordLaws.{Fit, empty-test}
-use Rattle.history.specs.Events.{Kind, kinds, kinds-clash, alters, does, opening, ending, Event, History, has, opened, ended, abandoned, kept, open-now}
-use Rattle.history.specs.Replies.{cells, most-open, numbers, Request, Want, an-open, a-step, an-end, an-abandon, nothing, want, first-of, tests, code-of, event-of, granted-of}
+use Rattle.history.specs.Events.{Kind, write, kinds, kinds-clash, alters, does, opening, ending, Event, History, has, opened, ended, abandoned, kept, open-now}
+use Rattle.history.specs.Replies.{cells, most-open, numbers, Request, Want, an-open, a-step, an-end, an-abandon, a-publish, nothing, want, first-of, tests, code-of, event-of, granted-of}
 use Rattle.history.specs.Memory.{Memory, fresh, touches, same-kind, same-deed, step-in, blank, fold, right, open-in, move, move-all, below, held}
 use Rattle.history.specs.TurnLaws.{has-test, open-opened, orderly}
 use Rattle.history.specs.TimeLaws.{meets-does, opening-own, ending-own, ending-leads, opening-leads, past-ended}
@@ -619,6 +619,13 @@ module _ {st : Held} {m : Memory} (seen : Seen st m) where
         at-job (λ s. ended-at st s) (λ n. blank (fold (step-in m ending n 0) n) n) j (passed (not (held right m .is-open j)) 2 0 z .0) (seen-end seen once)
     seen-moved an-abandon j c z =
         at-job (λ s. abandoned-at st s) (λ n. blank m n) j (passed (not (held right m .is-open j)) 2 _ z .0) (seen-abandon seen once)
+    seen-moved a-publish j c z =
+        let a = passed (leb cells c) 1 _ z in
+        at-job (λ s. ended-at (stepped-at st write s c) s) (λ n. let w = step-in m (does write) n c in blank (fold (step-in w ending n 0) n) n) j
+        (passed (not (held right m .is-open j)) 2 _ (a .1) .0)
+        (λ s o.
+        unfold number-at stepped-at step-in in
+        seen-end (seen-step seen write s c o (below-bound cells c (a .0))) once s (subst (λ (l : List ℕ). s ∈ l) (sym (slots-stepped st write s c)) o))
     seen-moved nothing j c z = seen
 
 -- a request keeps the rows and the memory alike

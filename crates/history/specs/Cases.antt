@@ -38,6 +38,9 @@ end j = record { kind = 4; byte1 = 0; cell = 0; job = j }
 abbrev pub abandon : ℕ → Request
 abandon j = record { kind = 5; byte1 = 0; cell = 0; job = j }
 
+abbrev pub publishes : ℕ → ℕ → Request
+publishes j c = record { kind = 6; byte1 = 0; cell = c; job = j }
+
 -- `granted 1`: code 0, job 1; `refused 7`: code 7, job 0
 abbrev pub granted : ℕ → Reply
 granted j = record { code = 0; job = j }
@@ -376,12 +379,31 @@ two-faults =
       only-one = true;
     }
 
+-- kind 7 is none, and for a publish too byte 1 is tested first and the cell before the job. Job 2's publish comes after job 1's read, and ends job 2 before job 3 is opened. So
+-- job 2's next publish gets 3, though it would close a circle too; and job 1 may not publish what 3 has read, but stays open
+abbrev pub published : Case
+published =
+    record {
+      first = 1;
+      exchanges =
+          record { kind = 6; byte1 = 1; cell = 256; job = 9 } gets refused 1
+          ∷ record { kind = 7; byte1 = 0; cell = 256; job = 9 } gets refused 1
+          ∷ publishes 9 256 gets refused 2
+          ∷ open-one gets granted 1 ∷ open-one gets granted 2
+          ∷ reads 1 5 gets granted 1 ∷ publishes 2 5 gets granted 2
+          ∷ open-one gets granted 3 ∷ reads 3 6 gets granted 3
+          ∷ publishes 2 6 gets refused 3 ∷ publishes 1 6 gets refused 7 ∷ publishes 1 7 gets granted 1 ∷ [];
+      order = some (1 ∷ 2 ∷ 3 ∷ []);
+      laid-out = 0 ∷ 2 ∷ 7 ∷ 8 ∷ 1 ∷ 3 ∷ 4 ∷ 5 ∷ 6 ∷ [];
+      only-one = true;
+    }
+
 abbrev pub own-table : List Case
-own-table = past-of-ended ∷ leads-of-ended ∷ chain-abandoned ∷ reads-alone ∷ ended-apart ∷ time-abandoned ∷ cell-zero ∷ two-faults ∷ []
+own-table = past-of-ended ∷ leads-of-ended ∷ chain-abandoned ∷ reads-alone ∷ ended-apart ∷ time-abandoned ∷ cell-zero ∷ two-faults ∷ published ∷ []
 
 pub own-cases : (c : Case) → c ∈ own-table → computed c ≡ expected c
 unfolding computed
-own-cases c = rows computed expected (refl, (refl, (refl, (refl, (refl, (refl, (refl, (refl, tt))))))))
+own-cases c = rows computed expected (refl, (refl, (refl, (refl, (refl, (refl, (refl, (refl, (refl, tt)))))))))
 
 -- ---- 6 before 5
 

@@ -5,7 +5,7 @@
 use mathlib.Core.Path.{_≡_, refl, sym, ap, ap₂, _∙_, subst}
 use mathlib.Core.Logic.{⊎-elim}
 use mathlib.Core.Bool.{Bool, true, false, not, cond}
-use mathlib.Core.List.{List, [], _∷_, _++_, append-nil, List·Memᴰ·head, Memᴰ·cast}
+use mathlib.Core.List.{List, [], _∷_, _++_, append-nil, append-assoc, List·Memᴰ·head, Memᴰ·cast}
 use Prim.Native.Nat.{ℕ, zero, suc, _+_, _<_}
 use native.Mathlib.Omega.{arith}
 use native.Mathlib.Nat.{add-zero, not-suc-le-zero}
@@ -13,8 +13,8 @@ use lib.Dec.{T, leb, eqb}
 use lib.ListN.{length, length-append}
 use Rattle.graph.specs.Decide.{and-test, eq-test, own-test, same-test, some-test, answer}
 use Rattle.graph.specs.Lists.{_∈_, later}
-use Rattle.history.specs.Events.{Kind, kinds, alters, Deed, does, alters-by, Event, opens, steps, ends, abandons, History, has, opened, open-now, Step, all-steps, kept-steps, wrote}
-use Rattle.history.specs.Replies.{cells, numbers, most-open, Request, Reply, Want, an-open, a-step, an-end, an-abandon, nothing, want, Facts, first-of, tests, code-of, event-of, job-of, reply-of, granted-of, full, reply, after, replies-from, replies}
+use Rattle.history.specs.Events.{Kind, write, kinds, alters, Deed, does, alters-by, Event, opens, steps, ends, abandons, History, has, opened, open-now, Step, all-steps, kept-steps, wrote}
+use Rattle.history.specs.Replies.{cells, numbers, most-open, Request, Reply, Want, an-open, a-step, an-end, an-abandon, a-publish, nothing, want, Facts, first-of, step-tests, tests, code-of, event-of, job-of, reply-of, granted-of, full, reply, after, replies-from, replies}
 use Rattle.history.specs.Memory.{Memory, fresh, right, open-in, step-in, blank, fold, move, move-all, below, held, held-replies}
 use Rattle.history.specs.Tables.{Tells}
 use Rattle.history.specs.EventLaws.{altering}
@@ -22,7 +22,7 @@ use Rattle.history.specs.CircleLaws.{has-circle-test}
 use Rattle.history.specs.TurnLaws.{opened-grows, stays, has-test, open-not-abandoned, kept-steps-from, kept-steps-if, orderly}
 use Rattle.history.specs.MemoryLaws.{every-kind}
 use Rattle.history.specs.MemoryTells.{tells-next, fresh-tells, closes-test}
-use Rattle.history.specs.Granted.{Proper, below-bound, granted-proper, proper-in-turn, Sound, sound-start, sound-next}
+use Rattle.history.specs.Granted.{Proper, ProperAfter, below-bound, granted-proper, proper-in-turn, Sound, sound-start, sound-next}
 
 -- ---- facts that agree
 
@@ -47,16 +47,20 @@ same-refused o p n x y e h = ap (λ (b : Bool). cond (not b) n x) e ∙ go p h
     go false k = refl
 
 module _ {f g : Facts} (a : Agree f g) where
+  agree-step : (k : Kind) (j c : ℕ) → first-of (step-tests f k j c) ≡ first-of (step-tests g k j c)
+  agree-step k j c =
+      same-after (leb cells c) 2 _ _ (λ no. same-refused (f .is-open j) (g .is-open j) 3 _ _ (a .is-open j)
+      (λ o. ap (λ (b : Bool). cond b 7 0) (a .closes k j c o (below-bound cells c no))))
+
   agree-tests : (w : Want) (j c : ℕ) → first-of (tests f w j c) ≡ first-of (tests g w j c)
   unfolding tests
   agree-tests an-open j c =
       ap (λ (n : ℕ). cond (leb numbers n) 6 (cond (leb most-open (f .count)) 5 0)) (a .next)
       ∙ ap (λ (n : ℕ). cond (leb numbers (g .next)) 6 (cond (leb most-open n) 5 0)) (a .count)
-  agree-tests (a-step k) j c =
-      same-after (leb cells c) 2 _ _ (λ no. same-refused (f .is-open j) (g .is-open j) 3 _ _ (a .is-open j)
-      (λ o. ap (λ (b : Bool). cond b 7 0) (a .closes k j c o (below-bound cells c no))))
+  agree-tests (a-step k) j c = agree-step k j c
   agree-tests an-end j c = same-refused (f .is-open j) (g .is-open j) 3 0 0 (a .is-open j) (λ o. refl)
   agree-tests an-abandon j c = same-refused (f .is-open j) (g .is-open j) 3 _ _ (a .is-open j) (λ o. ap (λ (b : Bool). cond b 4 0) (a .has-written j o))
+  agree-tests a-publish j c = agree-step write j c
   agree-tests nothing j c = refl
 
   pub agree-code : (r : Request) → code-of f r ≡ code-of g r
@@ -148,15 +152,17 @@ beside-next {first} {h} {m} e b p =
       tells = tells-next (orderly h (b .sound .turns)) (b .tells) e (proper-in-turn first h (b .sound .issued) e p);
     }
 
+pub beside-all : {first : ℕ} {h : History} {m : Memory} (es : List Event) → Beside first h m → ProperAfter first h es → Beside first (h ++ es) (move-all right m es)
+beside-all {first} {h} {m} [] b p = subst (λ (x : History). Beside first x m) (sym (append-nil h)) b
+beside-all {first} {h} {m} (e ∷ es) b p =
+    subst (λ (x : History). Beside first x (move-all right (move right m e) es)) (append-assoc h (e ∷ []) es) (beside-all es (beside-next e b (p .0)) (p .1))
+
 -- a request keeps the two side by side
 pub beside-after : {first : ℕ} {h : History} {m : Memory} (r : Request) → Beside first h m → Beside first (after first h r) (move-all right m (granted-of (held right m) r))
 unfolding after
 beside-after {first} {h} {m} r b =
     subst (λ (l : List Event). Beside first (h ++ granted-of (full first h) r) (move-all right m l)) (sym (agree-granted (agree b) r))
-    (⊎-elim
-    (λ q. subst (λ (l : List Event). Beside first (h ++ l) (move-all right m l)) (sym q) (subst (λ (x : History). Beside first x m) (sym (append-nil h)) b))
-    (λ q. subst (λ (l : List Event). Beside first (h ++ l) (move-all right m l)) (sym (q .1)) (beside-next (q .0) b (q .2)))
-    (granted-proper (full first h) r))
+    (beside-all (granted-of (full first h) r) b (granted-proper first h r))
 
 exact-from : {first : ℕ} {h : History} {m : Memory} → Beside first h m → (rs : List Request) → held-replies right m rs ≡ replies-from first h rs
 exact-from b [] = refl

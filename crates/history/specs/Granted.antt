@@ -2,9 +2,9 @@
 -- (`granted-sound`), every number was issued once, and at most 32 jobs are open.
 -- Assumes nothing.
 use mathlib.Core.Path.{_≡_, refl, sym, ap, _∙_, subst}
-use mathlib.Core.Logic.{_⊎_, inl, inr, ⊎-elim}
+use mathlib.Core.Logic.{⊎-elim}
 use mathlib.Core.Bool.{Bool, true, false, not, cond}
-use mathlib.Core.List.{List, [], _∷_, _++_, append-nil, List·Memᴰ·not-nil, List·Memᴰ·eq-of-singleton, Memᴰ·cast}
+use mathlib.Core.List.{List, [], _∷_, _++_, append-nil, append-assoc, List·Memᴰ·not-nil, List·Memᴰ·eq-of-singleton, Memᴰ·cast}
 use Prim.Native.Nat.{ℕ, suc, _+_, _≤_, _<_, zero-le}
 use native.Mathlib.Nat.{le-trans}
 use native.Mathlib.Omega.{arith}
@@ -13,8 +13,8 @@ use lib.ListN.{length, length-append}
 use Rattle.graph.specs.Decide.{eq-test, le-test, answer, true-is}
 use Rattle.graph.specs.Lists.{_∈_, only-length, Before, before-nil, before-from-only, strike}
 use Rattle.graph.specs.Walk.{Via, one, step, Any, carry}
-use Rattle.history.specs.Events.{opening, ending, Event, opens, steps, ends, abandons, History, opened-by, opened, kept, open-now, Step, step-at, all-steps, kept-steps, Precedes, Circular}
-use Rattle.history.specs.Replies.{cells, most-open, numbers, Request, Want, an-open, a-step, an-end, an-abandon, nothing, want, Facts, first-of, tests, code-of, event-of, granted-of, full, after, history-from, history-of}
+use Rattle.history.specs.Events.{Kind, write, opening, ending, Event, opens, steps, ends, abandons, History, has, opened-by, opened, kept, open-now, Step, step-at, all-steps, kept-steps, Precedes, Circular}
+use Rattle.history.specs.Replies.{cells, most-open, numbers, Request, Want, an-open, a-step, an-end, an-abandon, a-publish, nothing, want, Facts, first-of, step-tests, tests, code-of, event-of, granted-of, full, after, history-from, history-of}
 use Rattle.history.specs.Turns.{InTurn, Turns}
 use Rattle.history.specs.EventLaws.{ending-calm, precedes-in}
 use Rattle.history.specs.CircleLaws.{has-circle-test}
@@ -42,36 +42,55 @@ pub undenied : (b : Bool) → (T (not b) → ⊥) → T b
 undenied true h = tt
 undenied false h = h tt
 
-module _ (f : Facts) where
-  proper-of : (w : Want) (j c : ℕ) → first-of (tests f w j c) ≡ 0 → (e : Event) × (event-of (f .next) w j c ≡ e ∷ []) × Proper f e
+-- of several events: each was tested, for what the history says after those before it
+abbrev pub ProperAfter : ℕ → History → List Event → Type 0
+ProperAfter first h [] = Unit {0}
+ProperAfter first h (e ∷ es) = Proper (full first h) e × ProperAfter first (h ++ e ∷ []) es
+
+pub proper-step : (f : Facts) (k : Kind) (j c : ℕ) → first-of (step-tests f k j c) ≡ 0 → Proper f (steps k j c)
+proper-step f k j c z =
+    let p = passed (leb cells c) 1 _ z in
+    let q = passed (not (f .is-open j)) 2 _ (p .1) in
+    (undenied (f .is-open j) (q .0), below-bound cells c (p .0), passed (f .closes k j c) 6 0 (q .1) .0)
+
+module _ (first : ℕ) (h : History) where
+  pub is-open-now : (j : ℕ) → T (full first h .is-open j) → j ∈ open-now h
+  unfolding full
+  is-open-now j = has-test (open-now h) j .holds
+
+  -- a job that is open is open after its step too
+  pub still-open : (k : Kind) (j c : ℕ) → T (full first h .is-open j) → T (full first (h ++ steps k j c ∷ []) .is-open j)
+  unfolding full
+  still-open k j c t = subst (λ (l : List ℕ). T (has l j)) (sym (open-steps h j k c)) t
+
+  proper-of : (w : Want) (j c : ℕ) → first-of (tests (full first h) w j c) ≡ 0 → ProperAfter first h (event-of (full first h .next) w j c)
   unfolding tests event-of
   proper-of an-open j c z =
+      let f = full first h in
       let p = passed (leb numbers (f .next)) 5 _ z in
-      (opens (f .next), refl, (refl, below-bound numbers (f .next) (p .0), below-bound most-open (f .count) (passed (leb most-open (f .count)) 4 0 (p .1) .0)))
-  proper-of (a-step k) j c z =
-      let p = passed (leb cells c) 1 _ z in
-      let q = passed (not (f .is-open j)) 2 _ (p .1) in
-      (steps k j c, refl, (undenied (f .is-open j) (q .0), below-bound cells c (p .0), passed (f .closes k j c) 6 0 (q .1) .0))
-  proper-of an-end j c z = (ends j, refl, undenied (f .is-open j) (passed (not (f .is-open j)) 2 0 z .0))
+      ((refl, below-bound numbers (f .next) (p .0), below-bound most-open (f .count) (passed (leb most-open (f .count)) 4 0 (p .1) .0)), tt)
+  proper-of (a-step k) j c z = (proper-step (full first h) k j c z, tt)
+  proper-of an-end j c z = let f = full first h in (undenied (f .is-open j) (passed (not (f .is-open j)) 2 0 z .0), tt)
   proper-of an-abandon j c z =
+      let f = full first h in
       let q = passed (not (f .is-open j)) 2 _ z in
-      (abandons j, refl, (undenied (f .is-open j) (q .0), passed (f .has-written j) 3 0 (q .1) .0))
+      ((undenied (f .is-open j) (q .0), passed (f .has-written j) 3 0 (q .1) .0), tt)
+  proper-of a-publish j c z = let p = proper-step (full first h) write j c z in (p, (still-open write j c (p .0), tt))
   proper-of nothing j c z = absurd (passed true 0 0 z .0 tt)
 
-  -- a request grants nothing, or one event that was tested
-  pub granted-proper : (r : Request) → (granted-of f r ≡ []) ⊎ ((e : Event) × (granted-of f r ≡ e ∷ []) × Proper f e)
+  -- a request grants no event, one or two, each of them tested
+  pub granted-proper : (r : Request) → ProperAfter first h (granted-of (full first h) r)
   unfolding granted-of code-of
-  granted-proper r = go (eqb (code-of f r) 0) refl
+  granted-proper r = go (eqb (code-of (full first h) r) 0) refl
     where
       event : List Event
-      event = event-of (f .next) (want (r .kind)) (r .job) (r .cell)
+      event = event-of (full first h .next) (want (r .kind)) (r .job) (r .cell)
 
-      go : (b : Bool) → eqb (code-of f r) 0 ≡ b → (cond (eqb (code-of f r) 0) event [] ≡ []) ⊎ ((e : Event) × (cond (eqb (code-of f r) 0) event [] ≡ e ∷ []) × Proper f e)
+      go : (b : Bool) → eqb (code-of (full first h) r) 0 ≡ b → ProperAfter first h (cond b event [])
       go true q =
-          let z : code-of f r ≡ 0 = eq-test (code-of f r) 0 .holds (true-is q) in
-          let p = proper-of (want (r .kind)) (r .job) (r .cell) (passed (not (eqb (r .byte1) 0)) 0 _ z .1) in
-          inr (p .0, ap (λ (b : Bool). cond b event []) q ∙ p .1, p .2)
-      go false q = inl (ap (λ (b : Bool). cond b event []) q)
+          let z : code-of (full first h) r ≡ 0 = eq-test (code-of (full first h) r) 0 .holds (true-is q) in
+          proper-of (want (r .kind)) (r .job) (r .cell) (passed (not (eqb (r .byte1) 0)) 0 _ z .1)
+      go false q = tt
 
 -- what the full history grants is in turn, and leaves no circle
 abbrev Issued : ℕ → History → Type 0
@@ -172,13 +191,13 @@ sound-next {first} {h} e s p =
       no-circle = no-circle-next first h (s .turns) (s .issued) (s .no-circle) e p;
     }
 
+sound-all : {first : ℕ} {h : History} (es : List Event) → Sound first h → ProperAfter first h es → Sound first (h ++ es)
+sound-all {first} {h} [] s p = subst (Sound first) (sym (append-nil h)) s
+sound-all {first} {h} (e ∷ es) s p = subst (Sound first) (append-assoc h (e ∷ []) es) (sound-all es (sound-next e s (p .0)) (p .1))
+
 pub sound-after : {first : ℕ} {h : History} (r : Request) → Sound first h → Sound first (after first h r)
 unfolding after
-sound-after {first} {h} r s =
-    ⊎-elim
-    (λ q. subst (λ (l : List Event). Sound first (h ++ l)) (sym q) (subst (Sound first) (sym (append-nil h)) s))
-    (λ q. subst (λ (l : List Event). Sound first (h ++ l)) (sym (q .1)) (sound-next (q .0) s (q .2)))
-    (granted-proper (full first h) r)
+sound-after {first} {h} r s = sound-all (granted-of (full first h) r) s (granted-proper first h r)
 
 sound-from : {first : ℕ} {h : History} (rs : List Request) → Sound first h → Sound first (history-from first h rs)
 sound-from [] s = s

@@ -5,11 +5,11 @@
 -- In order: precedence and circles; replies; the bounded memory; orders; real time; what the auditor asked; the lowest-first order; granted histories; the
 -- table of cases.
 -- Assumes nothing.
-use mathlib.Core.Path.{_≡_, sym, ap, _∙_, subst}
+use mathlib.Core.Path.{_≡_, refl, sym, ap, _∙_, subst}
 use mathlib.Core.Logic.{_↔_, ⊎-elim}
 use mathlib.Core.Bool.{Bool, not, cond}
 use mathlib.Core.Option.{Option, none, some}
-use mathlib.Core.List.{List, [], _∷_, _++_, append-nil}
+use mathlib.Core.List.{List, [], _∷_, _++_, append-nil, append-assoc}
 use Prim.Native.Nat.{ℕ, _≤_, _<_}
 use lib.Dec.{T, eqb}
 use lib.ListN.{length}
@@ -18,9 +18,9 @@ use Rattle.graph.specs.Decide.{Decides, answer, test-true, test-false, eq-test,
 use Rattle.graph.specs.Lists.{_∈_, Before}
 use Rattle.graph.specs.Listing.{Forward, LowestFirst}
 use Rattle.graph.specs.ListingLaws.{lowest-only, forced-only}
-use Rattle.history.specs.Events.{Kind, does, opens, steps, ends, History, has, open-now, kept, Step, all-steps, kept-steps, Precedes, Circular, has-circle}
-use Rattle.history.specs.Replies.{cells, most-open, Request, Reply, an-open, a-step, an-end, want, tests, code-of, event-of, job-of, reply-of, granted-of, full, reply, after, replies, history-of}
-use Rattle.history.specs.ReplyLaws.{reply-for, OpenReply, open-reply, Alike, alike-reply, alike-granted}
+use Rattle.history.specs.Events.{Kind, write, does, opens, steps, ends, History, has, open-now, kept, Step, all-steps, kept-steps, Precedes, Circular, has-circle}
+use Rattle.history.specs.Replies.{cells, most-open, Request, Reply, an-open, a-step, an-end, a-publish, want, tests, code-of, event-of, job-of, reply-of, granted-of, full, reply, after, replies, history-of}
+use Rattle.history.specs.ReplyLaws.{reply-for, OpenReply, open-reply, as-kind, publish-reply, after-granted, Alike, alike-reply, alike-granted}
 use Rattle.history.specs.Turns.{Turns}
 use Rattle.history.specs.Memory.{fresh, right, move-all, held-replies}
 use Rattle.history.specs.Tables.{Tells}
@@ -32,7 +32,7 @@ use Rattle.history.specs.EventLaws.{precedes-test}
 use Rattle.history.specs.CircleLaws.{has-circle-test}
 use Rattle.history.specs.TurnLaws.{has-test}
 use Rattle.history.specs.MemoryTells.{tables-tell}
-use Rattle.history.specs.Granted.{granted-sound}
+use Rattle.history.specs.Granted.{passed, undenied, proper-step, still-open, is-open-now, granted-sound}
 use Rattle.history.specs.Exact.{exact}
 use Rattle.history.specs.LayoutLaws.{Onward, keeps-forward, forward-keeps}
 use Rattle.history.specs.OrderLaws.{accepted-forward, forward-accepted, same-last-write, same-read, same-cells, same-sights, accepted-no-circle, order-lowest, lowest-order, order-accepted, no-order-circle, order-exists, order-least}
@@ -89,18 +89,60 @@ end-granted first h r asks zero-byte is-open =
     let by-test : reply first h r ≡ said (has (open-now h) (r .job)) = reply-for first h r an-end asks zero-byte in
     by-test ∙ ap said (test-true (has-test (open-now h) (r .job)) is-open)
 
--- the job and the cell of an open, the cell of an end or an abandon are not looked at: requests that differ in nothing else (`Alike` of ReplyLaws) get the
--- same reply and leave the same history
-pub fields-ignored : (first : ℕ) (h : History) (a b : Request) → Alike a b → (reply first h a ≡ reply first h b) × (after first h a ≡ after first h b)
-unfolding reply after
-fields-ignored first h a b s = (alike-reply (full first h) s, ap (λ (l : History). h ++ l) (alike-granted (full first h) s))
-
 -- a refusal changes nothing: the history stays
 pub refusal-stays : (first : ℕ) (h : History) (r : Request) → (reply first h r .code ≡ 0 → ⊥) → after first h r ≡ h
 unfolding reply reply-of after granted-of
 refusal-stays first h r refused =
     ap (λ (b : Bool). h ++ cond b (event-of (full first h .next) (want (r .kind)) (r .job) (r .cell)) []) (test-false (eq-test (code-of (full first h) r) 0) refused)
     ∙ append-nil h
+
+-- a publish (kind 6) gets the reply that the write (kind 3) of that cell by that job gets, code and job, whatever its byte 1: it is granted exactly when the write is
+pub publish-granted : (first : ℕ) (h : History) (r : Request) → reply first h (as-kind 6 r) ≡ reply first h (as-kind 3 r)
+unfolding reply
+publish-granted first h r = publish-reply (full first h) r
+
+-- granted, it leaves the history that the write and then the end (kind 4) leave, and the end is never refused there; refused, it leaves the history as it was, as the
+-- write does
+pub record Published (first : ℕ) (h : History) (r : Request) : Type 0 where
+  pub end-next : reply first h (as-kind 6 r) .code ≡ 0 → reply first (after first h (as-kind 3 r)) (as-kind 4 r) ≡ record { code = 0; job = r .job }
+  pub both : reply first h (as-kind 6 r) .code ≡ 0 → after first h (as-kind 6 r) ≡ after first (after first h (as-kind 3 r)) (as-kind 4 r)
+  pub neither : (reply first h (as-kind 6 r) .code ≡ 0 → ⊥) → (after first h (as-kind 6 r) ≡ h) × (after first h (as-kind 3 r) ≡ h)
+
+module _ (first : ℕ) (h : History) (r : Request) (z : reply first h (as-kind 6 r) .code ≡ 0) where
+  abbrev written : History
+  written = h ++ steps write (r .job) (r .cell) ∷ []
+
+  write-left : after first h (as-kind 3 r) ≡ written
+  unfolding event-of
+  write-left = after-granted first h (as-kind 3 r) (a-step write) (unfold want in refl) (ap (λ (a : Reply). a .code) (sym (publish-granted first h r)) ∙ z)
+
+  ends-next : reply first written (as-kind 4 r) ≡ record { code = 0; job = r .job }
+  unfolding reply reply-of code-of tests want
+  ends-next =
+      let p = passed (not (eqb (r .byte1) 0)) 0 _ z in
+      let open-job = still-open first h write (r .job) (r .cell) (proper-step (full first h) write (r .job) (r .cell) (p .1) .0) in
+      end-granted first written (as-kind 4 r) refl (eq-test (r .byte1) 0 .holds (undenied (eqb (r .byte1) 0) (p .0))) (is-open-now first written (r .job) open-job)
+
+  publish-left : after first h (as-kind 6 r) ≡ after first written (as-kind 4 r)
+  unfolding event-of
+  publish-left =
+      after-granted first h (as-kind 6 r) a-publish (unfold want in refl) z
+      ∙ sym (append-assoc h (steps write (r .job) (r .cell) ∷ []) (ends (r .job) ∷ []))
+      ∙ sym (after-granted first written (as-kind 4 r) an-end (unfold want in refl) (ap (λ (a : Reply). a .code) ends-next))
+
+pub publish-is-both : (first : ℕ) (h : History) (r : Request) → Published first h r
+publish-is-both first h r =
+    record {
+      end-next = λ z. ap (λ (x : History). reply first x (as-kind 4 r)) (write-left first h r z) ∙ ends-next first h r z;
+      both = λ z. publish-left first h r z ∙ ap (λ (x : History). after first x (as-kind 4 r)) (sym (write-left first h r z));
+      neither = λ n. (refusal-stays first h (as-kind 6 r) n, refusal-stays first h (as-kind 3 r) (λ z. n (ap (λ (a : Reply). a .code) (publish-granted first h r) ∙ z)));
+    }
+
+-- the job and the cell of an open, the cell of an end or an abandon are not looked at: requests that differ in nothing else (`Alike` of ReplyLaws) get the
+-- same reply and leave the same history
+pub fields-ignored : (first : ℕ) (h : History) (a b : Request) → Alike a b → (reply first h a ≡ reply first h b) × (after first h a ≡ after first h b)
+unfolding reply after
+fields-ignored first h a b s = (alike-reply (full first h) s, ap (λ (l : History). h ++ l) (alike-granted (full first h) s))
 
 -- ---- the bounded memory
 

@@ -41,11 +41,12 @@ pub data Want : Type 0 where
   a-step : Kind → Want
   an-end : Want
   an-abandon : Want
+  a-publish : Want
   nothing : Want
 
--- the kinds 1 to 5
+-- the kinds 1 to 6; the sixth, a publish, is a write of one cell and the end of its job in one request
 unfoldable pub want : ℕ → Want
-want n = cond (eqb n 1) an-open (cond (eqb n 2) (a-step read) (cond (eqb n 3) (a-step write) (cond (eqb n 4) an-end (cond (eqb n 5) an-abandon nothing))))
+want n = cond (eqb n 1) an-open (cond (eqb n 2) (a-step read) (cond (eqb n 3) (a-step write) (cond (eqb n 4) an-end (cond (eqb n 5) an-abandon (cond (eqb n 6) a-publish nothing)))))
 
 -- ---- the codes
 
@@ -71,26 +72,32 @@ abbrev pub first-of : List Test → ℕ
 first-of [] = 0
 first-of (t ∷ ts) = cond (t .holds) (t .code) (first-of ts)
 
--- a step is tested for 2, then 3, then 7; an end for 3; an abandon for 3, then 4; an open for 6, then 5
+-- a step is tested for 2, then 3, then 7
+abbrev pub step-tests : Facts → Kind → ℕ → ℕ → List Test
+step-tests f k j c = (leb cells c gives 2) ∷ (not (f .is-open j) gives 3) ∷ (f .closes k j c gives 7) ∷ []
+
+-- an end for 3; an abandon for 3, then 4; an open for 6, then 5; a publish as its write is
 unfoldable pub tests : Facts → Want → ℕ → ℕ → List Test
 tests f an-open j c = (leb numbers (f .next) gives 6) ∷ (leb most-open (f .count) gives 5) ∷ []
-tests f (a-step k) j c = (leb cells c gives 2) ∷ (not (f .is-open j) gives 3) ∷ (f .closes k j c gives 7) ∷ []
+tests f (a-step k) j c = step-tests f k j c
 tests f an-end j c = (not (f .is-open j) gives 3) ∷ []
 tests f an-abandon j c = (not (f .is-open j) gives 3) ∷ (f .has-written j gives 4) ∷ []
+tests f a-publish j c = step-tests f write j c
 tests f nothing j c = (true gives 1) ∷ []
 
--- 1 before all: a byte 1 that is not zero, or a kind that is not 1 to 5
+-- 1 before all: a byte 1 that is not zero, or a kind that is not 1 to 6
 unfoldable pub code-of : Facts → Request → ℕ
 code-of f r = first-of ((not (eqb (r .byte1) 0) gives 1) ∷ tests f (want (r .kind)) (r .job) (r .cell))
 
 -- ---- the answer
 
--- the event that a granted request is
+-- the event that a granted request is; of a publish the two, its write and its end
 unfoldable pub event-of : ℕ → Want → ℕ → ℕ → List Event
 event-of n an-open j c = opens n ∷ []
 event-of n (a-step k) j c = steps k j c ∷ []
 event-of n an-end j c = ends j ∷ []
 event-of n an-abandon j c = abandons j ∷ []
+event-of n a-publish j c = steps write j c ∷ ends j ∷ []
 event-of n nothing j c = []
 
 -- the job that a grant names: for an open the number just issued, otherwise the job that asked
@@ -99,6 +106,7 @@ job-of n an-open j = n
 job-of n (a-step k) j = j
 job-of n an-end j = j
 job-of n an-abandon j = j
+job-of n a-publish j = j
 job-of n nothing j = j
 
 -- a refusal names job 0, and the history stays

@@ -1,16 +1,16 @@
--- The replies to well-formed requests, by what they ask for (`reply-for`), and to an open in full (`open-reply`); requests that differ only in
--- fields that are not looked at (`alike-reply`, `alike-granted`).
+-- The replies to well-formed requests, by what they ask for (`reply-for`), and to an open in full (`open-reply`); a publish and its write (`publish-reply`); what a
+-- granted request leaves (`after-granted`); requests that differ only in fields that are not looked at (`alike-reply`, `alike-granted`).
 -- Assumes nothing.
 use mathlib.Core.Path.{_≡_, refl, ap, ap₂, _∙_}
 use mathlib.Core.Bool.{Bool, true, false, not, cond}
-use mathlib.Core.List.{List, [], _∷_}
+use mathlib.Core.List.{List, [], _∷_, _++_}
 use Prim.Native.Nat.{ℕ, _+_, _≤_, _<_}
 use native.Mathlib.Omega.{arith}
 use lib.Dec.{leb, eqb}
 use lib.ListN.{length}
 use Rattle.graph.specs.Decide.{test-true, test-false, eq-test, le-test}
 use Rattle.history.specs.Events.{Event, History, opened, open-now}
-use Rattle.history.specs.Replies.{most-open, numbers, Request, Reply, Want, an-open, a-step, an-end, an-abandon, nothing, want, Facts, _gives_, tests, first-of, code-of, event-of, job-of, reply-of, granted-of, full, reply}
+use Rattle.history.specs.Replies.{most-open, numbers, Request, Reply, Want, an-open, a-step, an-end, an-abandon, a-publish, nothing, want, Facts, _gives_, tests, first-of, code-of, event-of, job-of, reply-of, granted-of, full, reply, after}
 
 -- the reply to a well-formed request, by what it asks for
 pub reply-for : (first : ℕ) (h : History) (r : Request) (w : Want) → want (r .kind) ≡ w → r .byte1 ≡ 0
@@ -40,15 +40,35 @@ open-reply first h r asks zero-byte =
       granted = λ s c. by-tests ∙ ap₂ said (left s) (test-false (le-test most-open (length (open-now h))) (λ q. omega arith));
     }
 
+-- ---- a request of another kind
+
+-- the same byte 1, cell and job
+abbrev pub as-kind : ℕ → Request → Request
+as-kind n r = record { kind = n; byte1 = r .byte1; cell = r .cell; job = r .job }
+
+-- whoever answers, a publish gets the reply that its write gets
+pub publish-reply : (f : Facts) (r : Request) → reply-of f (as-kind 6 r) ≡ reply-of f (as-kind 3 r)
+unfolding reply-of code-of tests want job-of
+publish-reply f r = refl
+
+-- ---- the history that a granted request leaves
+
+pub after-granted : (first : ℕ) (h : History) (r : Request) (w : Want) → want (r .kind) ≡ w → reply first h r .code ≡ 0 → after first h r ≡ h ++ event-of (full first h .next) w (r .job) (r .cell)
+unfolding reply reply-of after granted-of
+after-granted first h r w asks z =
+    ap (λ (b : Bool). h ++ cond b (event-of (full first h .next) (want (r .kind)) (r .job) (r .cell)) []) (test-true (eq-test (code-of (full first h) r) 0) z)
+    ∙ ap (λ (v : Want). h ++ event-of (full first h .next) v (r .job) (r .cell)) asks
+
 -- ---- fields that are not looked at
 
--- two requests have the same in the fields that are looked at: job and cell of a step, the job of an end or an abandon, neither of an open;
+-- two requests have the same in the fields that are looked at: job and cell of a step or a publish, the job of an end or an abandon, neither of an open;
 -- nor of a kind that is none of these
 abbrev pub SameFields : Want → Request → Request → Type 0
 SameFields an-open a b = Unit {0}
 SameFields (a-step k) a b = (a .job ≡ b .job) × (a .cell ≡ b .cell)
 SameFields an-end a b = a .job ≡ b .job
 SameFields an-abandon a b = a .job ≡ b .job
+SameFields a-publish a b = (a .job ≡ b .job) × (a .cell ≡ b .cell)
 SameFields nothing a b = Unit {0}
 
 -- alike: the same kind, the same byte 1, the same in the fields that are looked at
@@ -70,6 +90,7 @@ same-given f an-open x a b s = refl
 same-given f (a-step k) x a b s = ap₂ (λ (j c : ℕ). given-at f (a-step k) x j c) (s .0) (s .1)
 same-given f an-end x a b s = ap (λ (j : ℕ). given-at f an-end x j 0) s
 same-given f an-abandon x a b s = ap (λ (j : ℕ). given-at f an-abandon x j 0) s
+same-given f a-publish x a b s = ap₂ (λ (j c : ℕ). given-at f a-publish x j c) (s .0) (s .1)
 same-given f nothing x a b s = go (not (eqb x 0))
   where
     one-code : Bool → ℕ → Reply × List Event

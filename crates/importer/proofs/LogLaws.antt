@@ -2,7 +2,7 @@
 -- Assumes nothing.
 use mathlib.Core.Path.{_≡_, refl, sym, ap, _∙_}
 use mathlib.Core.Bool.{Bool, true, cond}
-use mathlib.Core.List.{List, [], _∷_, _++_, append-assoc, append-nil}
+use mathlib.Core.List.{List, [], _∷_, _++_, append-nil}
 use Prim.Native.Nat.{ℕ, suc, _+_, _*_, _≤_, _<_}
 use native.Mathlib.Numerals.{add-one}
 use native.Mathlib.Omega.{arith}
@@ -12,15 +12,12 @@ use lib.ListN.{length, getD, take, drop, set, length-append, drop-of-length-le}
 use lib.Seq.{length-take-le, take-at, drop-cons, sets-eq}
 use Rattle.history.specs.Events.{History}
 use Rattle.verdicts.specs.Logs.{fields, record-of, log-of}
+use Rattle.verdicts.specs.LogLaws.{log-append}
 use Rattle.notation.specs.Parse.{Stand, next, whole-at, event-at, grown, Parsed, wrong, parse-end, parse-from}
 use Rattle.importer.specs.Importer.{Fit, after-symbol, Holds}
 use Rattle.importer.proofs.StandLaws.{told}
 
 -- ---- logs
-
-log-append : (h k : History) → log-of (h ++ k) ≡ log-of h ++ log-of k
-log-append [] k = refl
-log-append (e ∷ h) k = ap (λ (l : List ℕ). record-of e ++ l) (log-append h k) ∙ sym (append-assoc (record-of e) (log-of h) (log-of k))
 
 -- eight stores are a record put down
 pub eight-in : (l : List ℕ) (at a b c d e f g h : ℕ) → at + 8 ≤ length l

@@ -14,10 +14,10 @@ use Rattle.graph.specs.Lists.{_∈_, here, later, each}
 use Rattle.history.specs.Events.{read, write, Event, opens, steps, ends, abandons, History, gather, opened-by, opened}
 use Rattle.history.specs.Formats.{records}
 use Rattle.history.specs.Granted.{passed}
-use Rattle.history.specs.Replies.{cells, numbers, Request, Want, an-open, a-step, an-end, an-abandon, nothing, want, event-of}
+use Rattle.history.specs.Replies.{cells, numbers, Request, Want, an-open, a-step, an-end, an-abandon, a-publish, nothing, want, event-of}
 use Rattle.history.specs.TurnLaws.{gather-append}
 use Rattle.verdicts.specs.Logs.{record-bytes, most-bytes, ill-formed, fault-of, Reading, faulty, events, read-from, read-log, kind-number, fields, record-of, log-of}
-use Rattle.verdicts.specs.LogLaws.{request-for, read-fields, event-for, Sized}
+use Rattle.verdicts.specs.LogLaws.{request-for, read-fields, event-for, log-append, Sized}
 use Rattle.verdicts.specs.SizeLaws.{log-size}
 use Rattle.blocks.specs.WordLaws.{bytes-of-word}
 use Rattle.notation.specs.Notation.{Sayable}
@@ -51,6 +51,7 @@ new-small an-open n c j l m = subst (λ (x : ℕ). x < numbers) (sym (List·Mem�
 new-small (a-step k) n c j l m = absurd (List·Memᴰ·not-nil m)
 new-small an-end n c j l m = absurd (List·Memᴰ·not-nil m)
 new-small an-abandon n c j l m = absurd (List·Memᴰ·not-nil m)
+new-small a-publish n c j l m = absurd (List·Memᴰ·not-nil m)
 new-small nothing n c j l m = absurd (List·Memᴰ·not-nil m)
 
 opened-which : (h k : History) {j : ℕ} → j ∈ opened (h ++ k) → (j ∈ opened h) ⊎ (j ∈ opened k)
@@ -135,14 +136,15 @@ data Sort : ℕ → Want → Type 0 where
   sort-write : Sort 3 (a-step write)
   sort-end : Sort 4 an-end
   sort-abandon : Sort 5 an-abandon
+  sort-publish : Sort 6 a-publish
   sort-none : {k : ℕ} → Sort k nothing
 
-no-kind : (k : ℕ) → (k ≡ 1 → ⊥) → (k ≡ 2 → ⊥) → (k ≡ 3 → ⊥) → (k ≡ 4 → ⊥) → (k ≡ 5 → ⊥) → want k ≡ nothing
+no-kind : (k : ℕ) → (k ≡ 1 → ⊥) → (k ≡ 2 → ⊥) → (k ≡ 3 → ⊥) → (k ≡ 4 → ⊥) → (k ≡ 5 → ⊥) → (k ≡ 6 → ⊥) → want k ≡ nothing
 unfolding want
-no-kind k a b c d e =
-    ap₂ (λ (x y : Bool). cond x an-open (cond y (a-step read) (cond (eqb k 3) (a-step write) (cond (eqb k 4) an-end (cond (eqb k 5) an-abandon nothing))))) (test-false (eq-test k 1) a) (test-false (eq-test k 2) b)
-    ∙ ap₂ (λ (x y : Bool). cond x (a-step write) (cond y an-end (cond (eqb k 5) an-abandon nothing))) (test-false (eq-test k 3) c) (test-false (eq-test k 4) d)
-    ∙ ap (λ (x : Bool). cond x an-abandon nothing) (test-false (eq-test k 5) e)
+no-kind k a b c d e f =
+    ap₂ (λ (x y : Bool). cond x an-open (cond y (a-step read) (cond (eqb k 3) (a-step write) (cond (eqb k 4) an-end (cond (eqb k 5) an-abandon (cond (eqb k 6) a-publish nothing)))))) (test-false (eq-test k 1) a) (test-false (eq-test k 2) b)
+    ∙ ap₂ (λ (x y : Bool). cond x (a-step write) (cond y an-end (cond (eqb k 5) an-abandon (cond (eqb k 6) a-publish nothing)))) (test-false (eq-test k 3) c) (test-false (eq-test k 4) d)
+    ∙ ap₂ (λ (x y : Bool). cond x an-abandon (cond y a-publish nothing)) (test-false (eq-test k 5) e) (test-false (eq-test k 6) f)
 
 sort-of : (k : ℕ) → Sort k (want k)
 unfolding want
@@ -152,7 +154,8 @@ sort-of k =
     (λ b. ⊎-elim (λ e. at-kind 3 e sort-write)
     (λ c. ⊎-elim (λ e. at-kind 4 e sort-end)
     (λ d. ⊎-elim (λ e. at-kind 5 e sort-abandon)
-    (λ f. subst (Sort k) (sym (no-kind k a b c d f)) sort-none) (answer (eq-test k 5))) (answer (eq-test k 4))) (answer (eq-test k 3))) (answer (eq-test k 2))) (answer (eq-test k 1))
+    (λ f. ⊎-elim (λ e. at-kind 6 e sort-publish)
+    (λ g. subst (Sort k) (sym (no-kind k a b c d f g)) sort-none) (answer (eq-test k 6))) (answer (eq-test k 5))) (answer (eq-test k 4))) (answer (eq-test k 3))) (answer (eq-test k 2))) (answer (eq-test k 1))
   where
     at-kind : (n : ℕ) → k ≡ n → Sort n (want n) → Sort k (want k)
     at-kind n e s = subst (λ (x : ℕ). Sort x (want x)) (sym e) s
@@ -174,6 +177,7 @@ record-is z c j sort-read f = (first-zero z c f, refl)
 record-is z c j sort-write f = (first-zero z c f, refl)
 record-is z c j sort-end f = let b = both-zero z c f in (b .0, ap (λ (x : ℕ). fields 4 x j) (sym (b .1)))
 record-is z c j sort-abandon f = let b = both-zero z c f in (b .0, ap (λ (x : ℕ). fields 5 x j) (sym (b .1)))
+record-is z c j sort-publish f = absurd (f tt)
 record-is z c j sort-none f = absurd (f tt)
 
 eight-are : (h : History) (k z c d i j m n : ℕ) → c < 256 → d < 256 → i < 256 → j < 256 → m < 256 → n < 256
@@ -184,10 +188,6 @@ eight-are h k z c d i j m n hc hd hi hj hm hn e =
     let r : Request = record { kind = k; byte1 = z; cell = c + d * 256; job = i + j * 256 + m * 65536 + n * 16777216 } in
     let q = record-is z (r .cell) (r .job) (sort-of k) (passed (ill-formed (want k) r) 11 _ e .0) in
     q .1 ∙ fields-are k c d i j m n hc hd hi hj hm hn ∙ ap (λ (x : ℕ). k ∷ x ∷ c ∷ d ∷ i ∷ j ∷ m ∷ n ∷ []) (sym (q .0))
-
-log-append : (g h : History) → log-of (g ++ h) ≡ log-of g ++ log-of h
-log-append [] h = refl
-log-append (e ∷ g) h = ap (λ (l : List ℕ). record-of e ++ l) (log-append g h) ∙ sym (append-assoc (record-of e) (log-of g) (log-of h))
 
 read-is-from : (g : History) (p : ℕ) (l : List ℕ) (h : History) → Bytes l → length l % 8 ≡ 0 → read-from g p (records l) ≡ events h → log-of g ++ l ≡ log-of h
 read-is-from g p (k ∷ z ∷ c ∷ d ∷ i ∷ j ∷ m ∷ n ∷ l) h b w e =

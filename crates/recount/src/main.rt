@@ -199,10 +199,10 @@ fn closes(h: &List, step: u64, marks: u64) -> bool {
 
 // ---- the replies by the definitions. A reply of 7 is marked where every circle passes a job that has ended.
 
-// Kind not 1 to 5, or byte 1 not zero.
-fn is_malformed(record: u64) -> bool {
+// Kind not 1 to the last one, or byte 1 not zero.
+fn is_malformed(record: u64, last: u64) -> bool {
     let kind = record % 256;
-    (kind == 0) | (5 < kind) | (record / 256 % 256 != 0)
+    (kind == 0) | (last < kind) | (record / 256 % 256 != 0)
 }
 
 fn decide_open(h: &List, n: usize) -> u64 {
@@ -242,23 +242,32 @@ fn decide_job(h: &List, asked: u64) -> u64 {
     7 | MARK
 }
 
-// The reply to a request.
+// The write of a publish; any other request is itself.
+fn step_of(asked: u64) -> u64 {
+    if asked % 256 == 6 {
+        return asked ^ 5;
+    }
+    asked
+}
+
+// The reply to a request. A publish gets the reply that its write gets: the end is of an open job.
 fn decide(h: &List, asked: u64) -> u64 {
-    if is_malformed(asked) {
+    if is_malformed(asked, 6) {
         return 1;
     }
     if asked % 256 == 1 {
         return decide_open(h, size(h));
     }
-    let code = refusal(asked, marks_of(h, size(h), asked >> 32));
+    let step = step_of(asked);
+    let code = refusal(step, marks_of(h, size(h), step >> 32));
     if code != 0 {
         return code;
     }
-    decide_job(h, asked)
+    decide_job(h, step)
 }
 
 // ---- counts. A row has 16 places: how many answers differed, how many there were, how many had each code, of which those from 11 on stand for 1 to 8, in the place
-// of an 8 how many replies were marked, and how many histories or logs there were.
+// of an 8 how many replies were marked, how many histories or logs there were, and how many publishes were granted.
 
 // The rows, by their first place, as the report has them line by line. A row of each shape comes first, and then what they sum to; the last is what the others sum to.
 const COUNTS: usize = 4352;
@@ -279,25 +288,24 @@ const STREAM_LISTS: u64 = 4544;
 
 const REST: u64 = 4560;
 
-// What is to be counted is one number. Its bits: from 0 the code, 8 is MARK, 9 that two answers differ, 10 that it is an answer, 11 that a history or a log begins,
-// from 16 on the row.
+// What is to be counted is one number. Its bits: those below 16 are one more at each such place of the row; from 16 on the row.
 const BEGIN: u64 = 2048;
+
+const PUBLISHED: u64 = 4096;
 
 // Two answers, and what is wanted, if that is not ALL.
 fn compared(row: u64, mine: u64, theirs: u64, want: u64) -> u64 {
     let answer = mine & !MARK;
     let differ = (answer != theirs) | ((want != ALL) & (answer != want));
-    row << 16 | mine % 512 | (differ as u64) << 9 | 1024
+    row << 16 | differ as u64 | 2 | 4 << (mine % 256 % 10) | (mine & MARK) << 2
 }
 
 fn tally_in(h: &mut List, row: usize, what: u64) {
-    let answer = what >> 10 & 1;
-    let code = (what % 256 % 10) as usize;
-    bump(h, row, what >> 9 & 1);
-    bump(h, row | 1, answer);
-    bump(h, row | 2 + code, answer);
-    bump(h, row | 10, what >> 8 & 1);
-    bump(h, row | 11, what >> 11 & 1);
+    let mut i: usize = 0;
+    while i < 16 {
+        bump(h, row | i, what >> i & 1);
+        i += 1;
+    }
 }
 
 fn sum_of(row: u64) -> u64 {
@@ -375,12 +383,25 @@ fn begin(h: &mut List, first: u64, row: u64) {
     tally(h, row << 16 | BEGIN);
 }
 
-// What is kept of a granted request: a step as it was asked, and anything else with cell 0 and the number of the reply.
+// What is kept of a granted request: a step, also that of a publish, as it was asked, and anything else with cell 0 and the number of the reply.
 fn kept(asked: u64, reply: u64) -> u64 {
     if asked & 2 != 0 {
-        return asked;
+        return step_of(asked);
     }
     asked % 256 | reply
+}
+
+// What is granted is kept, of a publish two records: the write, and the end. What is to be counted of it beside the reply.
+fn keep(h: &mut List, asked: u64, reply: u64) -> u64 {
+    if reply % 256 != 0 {
+        return 0;
+    }
+    add(h, kept(asked, reply));
+    if asked % 256 != 6 {
+        return 0;
+    }
+    add(h, reply | 4);
+    PUBLISHED
 }
 
 // The arbiter's reply to one request more.
@@ -395,10 +416,8 @@ fn reply_of(h: &mut List, asked: u64) -> u64 {
 fn ask(h: &mut List, row: u64, asked: u64, want: u64) {
     let mine = decide(h, asked);
     let theirs = reply_of(h, asked);
-    if mine % 256 == 0 {
-        add(h, kept(asked, mine));
-    }
-    tally(h, compared(row, mine, theirs, want));
+    let more = keep(h, asked, mine);
+    tally(h, compared(row, mine, theirs, want) | more);
 }
 
 // ---- a log and its order
@@ -406,7 +425,7 @@ fn ask(h: &mut List, row: u64, asked: u64, want: u64) {
 // A wrong kind, byte 1 not zero, a cell above 255, or one that must be 0 and is not.
 fn is_bad(record: u64) -> bool {
     let cell = record / 65536 % 65536;
-    is_malformed(record) | (255 < cell) | ((cell != 0) & (record & 2 == 0))
+    is_malformed(record, 5) | (255 < cell) | ((cell != 0) & (record & 2 == 0))
 }
 
 // The fault of an open, where so much was seen of its job before.
@@ -672,6 +691,13 @@ fn place_past(k: usize, byte: u8) -> usize {
     }
 }
 
+// A byte more of a line, at place k of its fields. Where what follows it stands.
+fn read_byte(fields: &mut List, k: usize, byte: u8) -> usize {
+    let x = grown(at(fields, k), byte);
+    put(fields, k, x);
+    place_past(k, byte)
+}
+
 // The fields of the line from a place on. Which is the last one stands at LENGTH.
 fn fields_of(text: &[u8], from: usize) -> List {
     let mut fields = [0u64; 4608];
@@ -682,9 +708,7 @@ fn fields_of(text: &[u8], from: usize) -> List {
         if byte == b'\n' {
             break;
         }
-        let x = grown(at(&fields, k), byte);
-        put(&mut fields, k, x);
-        k = place_past(k, byte);
+        k = read_byte(&mut fields, k, byte);
         i += 1;
     }
     put(&mut fields, LENGTH, (k / 4) as u64);
@@ -694,12 +718,13 @@ fn fields_of(text: &[u8], from: usize) -> List {
 
 fn kind_named(word: u64) -> u64 {
     match word {
-        // open, read, write, end, abandon
+        // open, read, write, end, abandon, publish
         0x6f70656e => 1,
         0x72656164 => 2,
         0x7772697465 => 3,
         0x656e64 => 4,
         0x6162616e646f6e => 5,
+        0x7075626c697368 => 6,
         _ => word,
     }
 }
@@ -848,12 +873,12 @@ fn shifted(x: u64) -> u64 {
 // first, and for the first.
 fn shape_of(k: u64) -> u64 {
     match k {
-        0 => 0x83_1223345_1223334,
-        1 => 0xc3_1233444_1122333,
-        2 => 0x33_1223345_1223345,
-        3 => 0x43_1222255_1233355,
-        4 => 0xe3_1123345_1112234,
-        _ => 0xc3_1112334_1112233,
+        0 => 0x83_1223345_1223336,
+        1 => 0xc3_1233446_1122333,
+        2 => 0x33_1223345_1223336,
+        3 => 0x43_1222225_1233356,
+        4 => 0xe3_1123345_1112236,
+        _ => 0xc3_1112336_1112233,
     }
 }
 
@@ -1019,14 +1044,14 @@ fn report(h: &List) {
     say_all(
         h,
         b"seed 1981; codes 0 to 7, and of 7 those through ended jobs; of orders and lists, codes 0 and 11 to 18
-few cells: # differ of # requests: # # # # # # # #, #; # histories
-one job open throughout: # differ of # requests: # # # # # # # #, #; # histories
-bad requests: # differ of # requests: # # # # # # # #, #; # histories
-abandons: # differ of # requests: # # # # # # # #, #; # histories
-slots full: # differ of # requests: # # # # # # # #, #; # histories
-numbers running out: # differ of # requests: # # # # # # # #, #; # histories
-all streams: # differ of # requests: # # # # # # # #, #; # histories
-tried histories: # differ of # requests: # # # # # # # #, #; # histories
+few cells: # differ of # requests: # # # # # # # #, #; # histories, # publishes granted
+one job open throughout: # differ of # requests: # # # # # # # #, #; # histories, # publishes granted
+bad requests: # differ of # requests: # # # # # # # #, #; # histories, # publishes granted
+abandons: # differ of # requests: # # # # # # # #, #; # histories, # publishes granted
+slots full: # differ of # requests: # # # # # # # #, #; # histories, # publishes granted
+numbers running out: # differ of # requests: # # # # # # # #, #; # histories, # publishes granted
+all streams: # differ of # requests: # # # # # # # #, #; # histories, # publishes granted
+tried histories: # differ of # requests: # # # # # # # #, #; # histories, # publishes granted
 tried orders: # differ of # verdicts: # # # # # # # # #; # logs
 tried lists: # differ of # answers: # # # # # # # # #
 orders of the streams: # differ of # verdicts: # # # # # # # # #
@@ -1036,13 +1061,17 @@ recount: # differ
     );
 }
 
-fn main() {
-    let mut space = [0u8; 131072];
-    let count = io::read_full(libc::STDIN_FILENO, &mut space);
+fn try_all(text: &[u8]) {
     let mut h = [0u64; 4608];
-    try_text(&mut h, &space[..count]);
+    try_text(&mut h, text);
     try_streams(&mut h);
     let more = at(&h, STREAMS as usize);
     bump(&mut h, REST as usize, more);
     report(&h);
+}
+
+fn main() {
+    let mut space = [0u8; 131072];
+    let count = io::read_full(libc::STDIN_FILENO, &mut space);
+    try_all(&space[..count]);
 }

@@ -29,11 +29,13 @@ use Rattle.marks.specs.MarkLaws.{getD-tab, tab-same, upto-has, upto-from, bit-z
 use Rattle.marks.specs.MarkLaws.{Lowest, lowest-mark, nonzero-test, ones-count, and-others, shl-one}
 use Rattle.marks.specs.MaskLaws.{bit-of, mask-not}
 use Rattle.marks.specs.Words.{empty}
-use Rattle.history.specs.Events.{Kind}
+use Rattle.history.specs.Events.{Kind, write}
 use Rattle.history.specs.Formats.{request-of}
-use Rattle.history.specs.Replies.{Reply, Want, an-open, a-step, an-end, an-abandon, want, tests, code-of, job-of, reply-of}
+use Rattle.history.specs.Replies.{Request, Reply, Want, an-open, a-step, an-end, an-abandon, a-publish, want, tests, code-of, job-of, reply-of}
+use Rattle.history.specs.ReplyLaws.{as-kind}
 use Rattle.held.specs.Held.{Held, first-in, is-some, at-slot, with-slot, set-place, open-at, open-slots, number-at, leads-at, word-at, cell-at, slot-of, free-slot}
 use Rattle.held.specs.Held.{set-at, touched, chain-back, altered, facts, has-past, opened-at, stepped-at, left-at, ended-at, abandoned-at, moved, answer-to, after}
+use Rattle.held.specs.HeldBlank.{publish-held}
 use Rattle.slots.specs.Lent.{lent, sets-only, numbered, kind-of, code-for, Does, Steps}
 use Rattle.slots.specs.Rows.{is-open, holds, leads-to, reaches, touches, theirs, gained-word, folded-word, put, struck, gained-row, gained, blanked, folded, marked-own}
 use Rattle.slots.specs.declared.Answer.{Answer}
@@ -476,6 +478,39 @@ module _ {h : Held} {j c s : ℕ} {r : Moved} (f : Found h j s) where
         (left-as h (λ i. false) s j r (h .leads) (h .sets) fits (λ i q. refl) (λ w q. refl) l
         ∙ ap (λ (o : Option ℕ). with-slot o (λ s. abandoned-at h s) h) (sym (f .first)))
 
+-- ---- a publish
+
+-- the write has left r₁ with its two arrays, and n is the code of its answer
+module _ {h : Held} {j c : ℕ} {r₁ : Moved} {leads₁ sets₁ : List ℕ} {n : ℕ} (d : Does h (a-step write) j c r₁ (h .numbers) leads₁ sets₁) (e : n ≡ numbered (r₁ .answer) .code) where
+  abbrev publishing : Request
+  publishing = record { kind = 6; byte1 = 0; cell = c; job = j }
+
+  write-code : code-for h (a-step write) j c ≡ n
+  write-code = sym (ap (λ (x : Reply). x .code) (d .answered)) ∙ sym e
+
+  pub does-publish-refused : (n ≡ 0 → ⊥) → Does h a-publish j c r₁ (h .numbers) leads₁ sets₁
+  unfolding code-for tests job-of
+  does-publish-refused f =
+      record {
+        answered = d .answered;
+        left = d .left ∙ ap (λ (b : Bool). cond b (moved h (a-step write) j c) h) no-grant ∙ sym (ap (λ (b : Bool). cond b (moved h a-publish j c) h) no-grant);
+      }
+    where
+      no-grant : eqb (code-for h (a-step write) j c) 0 ≡ false
+      no-grant = ap (λ (x : ℕ). eqb x 0) write-code ∙ ne-eqb n 0 f
+
+  -- and the end has left r: by what `held` says of a publish, of its write and of its end
+  pub does-publish-granted : {r : Moved} {numbers leads sets : List ℕ} → n ≡ 0
+      → Does (lent (r₁ .next) (r₁ .free) (h .numbers) leads₁ sets₁) an-end j 0 r numbers leads sets → Does h a-publish j c r numbers leads sets
+  unfolding code-for code-of tests want after moved job-of
+  does-publish-granted z f =
+      does-by 0 (write-code ∙ z) (f .answered ∙ ap (reply-at (lent (r₁ .next) (r₁ .free) (h .numbers) leads₁ sets₁) an-end j) ends)
+      (f .left ∙ ap (λ (x : Held). after x (as-kind 4 publishing)) (d .left) ∙ sym (publish-held h publishing .both (write-code ∙ z))
+      ∙ ap (state-at h a-publish j c) (write-code ∙ z))
+    where
+      ends : code-for (lent (r₁ .next) (r₁ .free) (h .numbers) leads₁ sets₁) an-end j 0 ≡ 0
+      ends = ap (λ (x : Held). code-of (facts x) (as-kind 4 publishing)) (d .left) ∙ publish-held h publishing .end-next (write-code ∙ z)
+
 -- ---- a request of eight bytes
 
 -- byte 1 is looked at before all tests
@@ -507,15 +542,15 @@ module _ {h : Held} {r : Moved} (b : List ℕ) where
   steps-byte ne = malformed (code-byte h b (ne-eqb (getD b 1 0) 0 ne))
 
   module _ (z : getD b 1 0 ≡ 0) where
-    -- the kind is none of the five, as the last arm of a match says it
-    pub steps-kind : ((((Unit {0} × (getD b 0 0 ≡ 1 → ⊥)) × (getD b 0 0 ≡ 2 → ⊥)) × (getD b 0 0 ≡ 3 → ⊥)) × (getD b 0 0 ≡ 4 → ⊥)) × (getD b 0 0 ≡ 5 → ⊥)
+    -- the kind is none of the six, as the last arm of a match says it
+    pub steps-kind : (((((Unit {0} × (getD b 0 0 ≡ 1 → ⊥)) × (getD b 0 0 ≡ 2 → ⊥)) × (getD b 0 0 ≡ 3 → ⊥)) × (getD b 0 0 ≡ 4 → ⊥)) × (getD b 0 0 ≡ 5 → ⊥)) × (getD b 0 0 ≡ 6 → ⊥)
         → Refused h Malformed r → Steps h (request-of b) r (h .numbers) (h .leads) (h .sets)
     unfolding want code-for tests
     steps-kind n =
         let k = getD b 0 0 in
-        malformed (code-byte h b (eq-eqb (getD b 1 0) 0 z) ∙ rw (ne-eqb k 1 (n .0 .0 .0 .0 .1), ne-eqb k 2 (n .0 .0 .0 .1), ne-eqb k 3 (n .0 .0 .1), ne-eqb k 4 (n .0 .1), ne-eqb k 5 (n .1)) refl)
+        malformed (code-byte h b (eq-eqb (getD b 1 0) 0 z) ∙ rw (ne-eqb k 1 (n .0 .0 .0 .0 .0 .1), ne-eqb k 2 (n .0 .0 .0 .0 .1), ne-eqb k 3 (n .0 .0 .0 .1), ne-eqb k 4 (n .0 .0 .1), ne-eqb k 5 (n .0 .1), ne-eqb k 6 (n .1)) refl)
 
-    -- a well-formed request does what is done for its kind. Only a step looks at the cell, and an open not at the job either
+    -- a well-formed request does what is done for its kind. Only a step and a publish look at the cell, and an open not at the job either
     module _ {numbers leads sets : List ℕ} where
       steps-does : {w : Want} {j c : ℕ} → want (getD b 0 0) ≡ w → j ≡ request-of b .job → c ≡ request-of b .cell → Does h w j c r numbers leads sets
           → Steps h (request-of b) r numbers leads sets
@@ -524,6 +559,11 @@ module _ {h : Held} {r : Moved} (b : List ℕ) where
       pub steps-step : (writes : Bool) {j c : ℕ} → getD b 0 0 ≡ cond writes 3 2 → j ≡ request-of b .job → c ≡ request-of b .cell
           → Does h (a-step (kind-of writes)) j c r numbers leads sets → Steps h (request-of b) r numbers leads sets
       steps-step writes k = steps-does (ap want k ∙ step-want writes)
+
+      pub steps-publish : {j c : ℕ} → getD b 0 0 ≡ 6 → j ≡ request-of b .job → c ≡ request-of b .cell
+          → Does h a-publish j c r numbers leads sets → Steps h (request-of b) r numbers leads sets
+      unfolding want
+      steps-publish k = steps-does (ap want k)
 
       pub steps-open : getD b 0 0 ≡ 1 → Does h an-open 0 0 r numbers leads sets → Steps h (request-of b) r numbers leads sets
       unfolding want code-for tests job-of moved

@@ -9,7 +9,7 @@ ghost use lib.Dec.{leb, eqb};
 ghost use lib.ListN.{getD, take, drop};
 ghost use Rattle.marks.specs.Marks.{bit, mask-of, tab};
 ghost use Rattle.history.specs.Formats.{request-of};
-ghost use Rattle.history.specs.Replies.{an-open, a-step, an-end, an-abandon};
+ghost use Rattle.history.specs.Replies.{an-open, a-step, an-end, an-abandon, a-publish};
 ghost use Rattle.held.specs.Held.{has-past};
 ghost use Rattle.slots.specs.Lent.{lent, sets-only, numbered, kind-of, Does, Steps};
 ghost use Rattle.slots.specs.Rows.{holds, leads-to, reaches, met, touches, theirs, clash-word, past-word, put, struck, gained, blanked, folded, marked-own};
@@ -518,6 +518,26 @@ fn abandon_job(
     leave(next, free, numbers, leads, sets, slot, job)
 }
 
+// The write, and where it was granted the end. Where it was refused, its answer: the job stays open.
+fn publish_job(
+    next: u64,
+    free: u32,
+    numbers: &mut [u32; 32],
+    leads: &mut [u32; 32],
+    sets: &mut [u64; 512],
+    job: JobNumber,
+    cell: u32,
+) -> Moved
+    ensures { λ r. ⌜ Does (lent next free (now (numbers .entry)) (now (leads .entry)) (now (sets .entry))) a-publish (job .0) cell r (now (numbers .exit)) (now (leads .exit)) (now (sets .exit)) ⌝ }
+{
+    let written = step_job(next, free, numbers, leads, sets, true, job, cell);
+    let answer = written.answer;
+    if answer.code() != 0 {
+        return written;
+    }
+    end_job(written.next, written.free, numbers, leads, sets, job)
+}
+
 fn wide(b: u8) -> u32
     ensures { λ r. ⌜ (r ≡ b) × (r < 256) ⌝ }
 {
@@ -565,6 +585,7 @@ pub fn step_in_place(
         3 => step_job(next, free, numbers, leads, sets, true, job, cell),
         4 => end_job(next, free, numbers, leads, sets, job),
         5 => abandon_job(next, free, numbers, leads, sets, job),
+        6 => publish_job(next, free, numbers, leads, sets, job, cell),
         _ => refused(next, free, Answer::Malformed),
     }
 }

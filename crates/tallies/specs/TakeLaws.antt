@@ -15,7 +15,7 @@ use lib.Seq.{getD-at, getD-set-same, getD-set-other}
 use Rattle.graph.specs.Decide.{Decides, and-test, or-test, not-test, eq-test, le-test, lt-test, own-test, some-test, every-of, every-test, same-test, answer, test-true, test-false}
 use Rattle.graph.specs.Lists.{_∈_, here}
 use Rattle.history.specs.Events.{read, write, Deed, does, opening, ending, alters-by, Event, opens, steps, ends, abandons, History, ended-by, abandoned-by, has, opened, ended, abandoned, open-now, Step, step-at, step-by, all-steps, wrote}
-use Rattle.history.specs.Replies.{cells, Request, Want, an-open, a-step, an-end, an-abandon, nothing, want, event-of}
+use Rattle.history.specs.Replies.{cells, Request, Want, an-open, a-step, an-end, an-abandon, a-publish, nothing, want, event-of}
 use Rattle.history.specs.Turns.{InTurn}
 use Rattle.history.specs.TurnLaws.{Grows, which-in, old-in, new-in, stays, opened-grows, ended-grows, abandoned-grows, all-steps-grows, has-test, open-from, open-opened, open-not-abandoned, orderly, turns-next}
 use Rattle.verdicts.specs.Logs.{most-jobs, ill-formed, out-of-turn, too-many, fault-of}
@@ -148,18 +148,27 @@ byte-ill h k b c j f = of-form h (asked k b c j) (go (want k))
       | a-step s ↦ either-way (leb cells c)
       | an-end ↦ either-way (not (eqb c 0))
       | an-abandon ↦ either-way (not (eqb c 0))
+      | a-publish ↦ refl
       | nothing ↦ refl
     ]
 
--- a kind that is none of the five
+-- a kind that is none of a log's five
 kind-ill : (h : History) (k b c j : ℕ) → (k ≡ 1 → ⊥) → (k ≡ 2 → ⊥) → (k ≡ 3 → ⊥) → (k ≡ 4 → ⊥) → (k ≡ 5 → ⊥) → fault-of h (asked k b c j) ≡ 12
-kind-ill h k b c j n1 n2 n3 n4 n5 = of-form h (asked k b c j) (unfold ill-formed in ap (λ (w : Want). ill-formed w (asked k b c j)) no-kind)
+kind-ill h k b c j n1 n2 n3 n4 n5 = of-form h (asked k b c j) (ap (λ (w : Want). ill-formed w (asked k b c j)) no-kind ∙ ill (eqb k 6))
   where
-    step : (n : ℕ) (x : Want) {y : Want} → (k ≡ n → ⊥) → y ≡ nothing → cond (eqb k n) x y ≡ nothing
+    -- a publish, or none at all
+    rest : Want
+    rest = cond (eqb k 6) a-publish nothing
+
+    step : (n : ℕ) (x : Want) {y : Want} → (k ≡ n → ⊥) → y ≡ rest → cond (eqb k n) x y ≡ rest
     step n x {y} f e = ap (λ (t : Bool). cond t x y) (test-false (eq-test k n) f) ∙ e
 
-    no-kind : want k ≡ nothing
+    no-kind : want k ≡ rest
     no-kind = unfold want in step 1 an-open n1 (step 2 (a-step read) n2 (step 3 (a-step write) n3 (step 4 an-end n4 (step 5 an-abandon n5 refl))))
+
+    ill : (t : Bool) → ill-formed (cond t a-publish nothing) (asked k b c j) ≡ true
+    ill true = unfold ill-formed in refl
+    ill false = unfold ill-formed in refl
 
 -- ---- how a job stands after one event more
 

@@ -107,6 +107,8 @@ fn kind_of(line: &[u8], at: usize) -> Found {
         0x656e64 => Found { value: 4, end: end },
         // abandon
         0x6162616e646f6e => Found { value: 5, end: end },
+        // publish
+        0x7075626c697368 => Found { value: 6, end: end },
         _ => find(line, at, false, 255),
     }
 }
@@ -348,35 +350,43 @@ fn as_expected(answer: Answer, want: Wanted) -> bool {
     (answer.code() as u64 == want.code) & (answer.job().0 as u64 == want.number)
 }
 
+// Is the state one way that of the other way, and that which the lines say is left, where they do?
+fn as_left(before: Turn, a: State, b: State) -> bool {
+    let left = before.want;
+    same_state(a, b) & (same_state(a, left) | !before.made)
+}
+
+// The request goes on: the state is the next one.
+fn moved(before: Turn, came: Came, state: State) -> Turn {
+    let mut after = judged(before, came);
+    after.now = state;
+    after.want = state;
+    after.made = false;
+    after.requests = std::num::wrapping_add_u64(before.requests, 1);
+    after
+}
+
 // One request, both ways.
 fn ask(before: Turn, asked: [u8; 8], opens: bool, want: Wanted) -> Turn {
     let state = before.now;
-    let left = before.want;
     let one = state.step(asked);
     let other = in_place(state, asked);
-    let a = one.state;
-    let b = other.state;
+    let next = one.state;
     let x = one.answer;
     let y = other.answer;
     let code = x.code();
     let job = x.job().0;
     let right = as_expected(x, want)
         & as_expected(y, want)
-        & same_state(a, b)
-        & (same_state(a, left) | !before.made)
-        & (took_lowest(state.free, a, job) | !opens | (code != 0));
+        & as_left(before, next, other.state)
+        & (took_lowest(state.free, next, job) | !opens | (code != 0));
     let came = Came {
         right: right,
         code: code as u64,
         number: job as u64,
         verdicts: 0,
     };
-    let mut after = judged(before, came);
-    after.now = a;
-    after.want = a;
-    after.made = false;
-    after.requests = std::num::wrapping_add_u64(before.requests, 1);
-    after
+    moved(before, came, next)
 }
 
 fn row_of(line: &[u8], before: Turn) -> Turn {
@@ -696,11 +706,8 @@ fn list_of(line: &[u8], at: usize, log: &[u8]) -> Came {
 
 // ---- a line
 
-fn line_of(line: &[u8], log: &mut [u8; 32784], before: Turn) -> Turn {
-    let word = find(line, 0, true, NO_NUMBER);
-    let value = word.value;
-    let at = word.end;
-    let used = before.used;
+// A line of a history or a state.
+fn state_line(line: &[u8], value: u64, at: usize, before: Turn) -> Turn {
     let state = before.want;
     match value {
         // history, state
@@ -713,6 +720,16 @@ fn line_of(line: &[u8], log: &mut [u8; 32784], before: Turn) -> Turn {
         0x63656c6c73 => written(before, cells_of(line, at, state)),
         // left
         0x6c656674 => left_of(line, at, before),
+        _ => row_of(line, before),
+    }
+}
+
+fn line_of(line: &[u8], log: &mut [u8; 32784], before: Turn) -> Turn {
+    let word = find(line, 0, true, NO_NUMBER);
+    let value = word.value;
+    let at = word.end;
+    let used = before.used;
+    match value {
         // log
         0x6c6f67 => logged(before, 0),
         // record
@@ -723,7 +740,7 @@ fn line_of(line: &[u8], log: &mut [u8; 32784], before: Turn) -> Turn {
         0x6f72646572 => judged(before, order_of(line, at, part(log, used))),
         // list
         0x6c697374 => judged(before, list_of(line, at, part(log, used))),
-        _ => row_of(line, before),
+        _ => state_line(line, value, at, before),
     }
 }
 
@@ -800,7 +817,7 @@ fn all_lines(text: &[u8]) -> Turn {
     done
 }
 
-// The counts. A text that fills the whole buffer may be longer: that is said.
+// The counts, and whether the text may be cut.
 fn say_counts(done: Turn, cut: bool) {
     if cut {
         say(b"TEXT TOO LONG\n");
@@ -860,10 +877,14 @@ fn tails() {
     tail_of(11);
 }
 
+// A text that fills the whole buffer may be longer.
+fn try_all(text: &[u8]) {
+    say_counts(all_lines(text), text.len() == 131072);
+    tails();
+}
+
 fn main() {
     let mut space = [0u8; 131072];
     let count = io::read_full(libc::STDIN_FILENO, &mut space);
-    let done = all_lines(&space[..count]);
-    say_counts(done, count == 131072);
-    tails();
+    try_all(&space[..count]);
 }

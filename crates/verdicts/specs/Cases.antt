@@ -1,6 +1,6 @@
 -- Tried logs. What the checker says of a log and a list stands in one table under one statement (`check-cases`); what the lister says of a log, and
--- leaves in the list lent to it, in another (`list-cases`). Both are computed from the definitions. So is P1's log, byte for byte (`p1-bytes`), and so are the two
--- requests that the rules write as bytes (`two-read`, `two-written`).
+-- leaves in the list lent to it, in another (`list-cases`). Both are computed from the definitions. So is P1's log, byte for byte (`p1-bytes`), and so are the log
+-- of a case with publishes (`published-log`) and the two requests that the rules write as bytes (`two-read`, `two-written`).
 --
 -- A row has the log, the list handed over, and after `gets` the code and the place expected; after `leaving`, what the list then holds. A log is
 -- what a P case leaves, or is put down record by record, or as bytes. Places count from 0. The limits on a log's bytes and on its jobs are too
@@ -18,7 +18,7 @@ use Rattle.graph.specs.Decide.{Decides, or-test, not-test, eq-test, le-test, lt
 use Rattle.graph.specs.Lists.{_∈_}
 use Rattle.history.specs.Events.{History, opened}
 use Rattle.history.specs.Replies.{Request, history-of}
-use Rattle.history.specs.Cases.{reads, writes, end, abandon, Case, requests-of, computed, p1, p3, p6, p7, p8, rows}
+use Rattle.history.specs.Cases.{reads, writes, end, abandon, Case, requests-of, computed, p1, p3, p6, p7, p8, published, rows}
 use Rattle.history.specs.Formats.{records, bytes-of}
 use Rattle.verdicts.specs.Logs.{ill-formed, out-of-turn, too-many, fault-of, faulty, read-from, read-log, log-of}
 use Rattle.verdicts.specs.Verdicts.{Verdict, verdict, missing, backward, judged, check, Listed, listed, list-order}
@@ -64,6 +64,13 @@ p1-written =
 pub p1-bytes : log-after p1 ≡ p1-written
 unfolding computed
 p1-bytes = refl
+
+-- ---- a publish in a log
+
+-- a granted publish leaves two records, the write and the end; a refused one leaves none
+pub published-log : log-after published ≡ log (opens 1 ∷ opens 2 ∷ reads 1 5 ∷ writes 2 5 ∷ end 2 ∷ opens 3 ∷ reads 3 6 ∷ writes 1 7 ∷ end 1 ∷ [])
+unfolding computed
+published-log = refl
 
 -- ---- the requests of the rules, R27
 
@@ -195,10 +202,11 @@ length-rows-hold c = rows checked (λ c. c .expected) (refl, (refl, (refl, (refl
 -- 12, the form of a record
 abbrev pub form-rows : List CheckCase
 form-rows =
-    -- kinds 0, 6 and 255
+    -- kinds 0, 7 and 255, and that of a publish, which stands in a log as a write and an end
     log (opens 1 ∷ raw 0 0 0 1 ∷ []) with 1 ∷ [] gets 12 at 1
-    ∷ log (opens 1 ∷ raw 6 0 0 1 ∷ []) with 1 ∷ [] gets 12 at 1
+    ∷ log (opens 1 ∷ raw 7 0 0 1 ∷ []) with 1 ∷ [] gets 12 at 1
     ∷ log (opens 1 ∷ raw 255 0 0 1 ∷ []) with 1 ∷ [] gets 12 at 1
+    ∷ log (opens 1 ∷ raw 6 0 5 1 ∷ []) with 1 ∷ [] gets 12 at 1
     -- a 1 in byte 1, for each of the five kinds
     ∷ log (raw 1 1 0 1 ∷ []) with 1 ∷ [] gets 12 at 0
     ∷ log (opens 1 ∷ raw 2 1 5 1 ∷ []) with 1 ∷ [] gets 12 at 1
@@ -218,7 +226,7 @@ form-rows =
 
 form-rows-hold : AsExpected form-rows
 unfolding checked
-form-rows-hold c = rows checked (λ c. c .expected) (refl, (refl, (refl, (refl, (refl, (refl, (refl, (refl, (refl, (refl, (refl, (refl, (refl, (refl, (refl, tt)))))))))))))))
+form-rows-hold c = rows checked (λ c. c .expected) (refl, (refl, (refl, (refl, (refl, (refl, (refl, (refl, (refl, (refl, (refl, (refl, (refl, (refl, (refl, (refl, tt))))))))))))))))
 
 -- 13, the turn of a record
 abbrev pub turn-rows : List CheckCase

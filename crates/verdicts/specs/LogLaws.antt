@@ -12,7 +12,7 @@ use lib.ListN.{length, length-append}
 use Rattle.graph.specs.Decide.{or-test, not-test, eq-test, le-test, lt-test, own-test, every-of, every-test, answer, test-true, test-false, is-false, Decides, false-is}
 use Rattle.graph.specs.Lists.{_∈_, here}
 use Rattle.history.specs.Events.{read, write, Event, opens, steps, ends, abandons, History, gather, opened-by, has, opened, open-now, wrote}
-use Rattle.history.specs.Replies.{cells, numbers, Request, Want, an-open, a-step, an-end, an-abandon, nothing, want, event-of, history-of}
+use Rattle.history.specs.Replies.{cells, numbers, Request, Want, an-open, a-step, an-end, an-abandon, a-publish, nothing, want, event-of, history-of}
 use Rattle.history.specs.Turns.{InTurn, InTurnAfter, Turns}
 use Rattle.history.specs.Granted.{passed, undenied, granted-sound}
 use Rattle.history.specs.TurnLaws.{gather-append, has-test, open-opened, turns-next}
@@ -38,6 +38,7 @@ in-turn h r z =
       | a-step k ↦ λ i t. (steps k (r .job) (r .cell), refl, (is-open t, ⊎-elim (λ le. absurd (i (or-test (not-test (eq-test (r .byte1) 0)) (le-test cells (r .cell)) .shows (inr le)))) (λ f. let g : (cells ≤ r .cell) → ⊥ = f in omega arith) (answer (le-test cells (r .cell)))))
       | an-end ↦ λ i t. (ends (r .job), refl, is-open t)
       | an-abandon ↦ λ i t. (abandons (r .job), refl, (is-open (λ f. t (or-test (own-test (not (has (open-now h) (r .job)))) (own-test (wrote h (r .job))) .shows (inl f))), λ w′. t (or-test (own-test (not (has (open-now h) (r .job)))) (own-test (wrote h (r .job))) .shows (inr w′))))
+      | a-publish ↦ λ i t. absurd (i tt)
       | nothing ↦ λ i t. absurd (i tt)
     ]
 
@@ -232,6 +233,10 @@ read-events h n (e ∷ es) t s =
     ∙ ap (λ (l : List Event). read-from (h ++ l) (suc n) (records (log-of es))) (event-for e)
     ∙ read-events (h ++ e ∷ []) (suc n) es (t .1) s′
     ∙ ap events (append-assoc h (e ∷ []) es)
+
+pub log-append : (g h : History) → log-of (g ++ h) ≡ log-of g ++ log-of h
+log-append [] h = refl
+log-append (e ∷ g) h = ap (λ (l : List ℕ). record-of e ++ l) (log-append g h) ∙ sym (append-assoc (record-of e) (log-of g) (log-of h))
 
 pub log-length : (h : History) → length (log-of h) ≡ 8 * length h
 log-length [] = refl

@@ -11,7 +11,7 @@ use lib.ListN.{length}
 use Rattle.graph.specs.Decide.{every-of}
 use Rattle.history.specs.Events.{Kind, read, write, Event, opens, steps, ends, abandons, History, has, opened, open-now, wrote}
 use Rattle.history.specs.Formats.{records, bytes-of}
-use Rattle.history.specs.Replies.{cells, Request, Want, an-open, a-step, an-end, an-abandon, nothing, want, _gives_, first-of, event-of}
+use Rattle.history.specs.Replies.{cells, Request, Want, an-open, a-step, an-end, an-abandon, a-publish, nothing, want, _gives_, first-of, event-of}
 
 -- ---- sizes
 
@@ -27,12 +27,13 @@ most-jobs = 512
 
 -- ---- faults of a record, after the events before it
 
--- 12: a wrong kind, byte 1 not zero, a cell above 255, or a cell that must be 0 and is not
+-- 12: a wrong kind, byte 1 not zero, a cell above 255, or a cell that must be 0 and is not. A publish stands in a log as its two records, so its kind is a wrong one
 unfoldable pub ill-formed : Want → Request → Bool
 ill-formed an-open r = not (eqb (r .byte1) 0) || not (eqb (r .cell) 0)
 ill-formed (a-step k) r = not (eqb (r .byte1) 0) || leb cells (r .cell)
 ill-formed an-end r = not (eqb (r .byte1) 0) || not (eqb (r .cell) 0)
 ill-formed an-abandon r = not (eqb (r .byte1) 0) || not (eqb (r .cell) 0)
+ill-formed a-publish r = true
 ill-formed nothing r = true
 
 -- 13: out of turn: an open whose number is not the highest so far, another record of a job that is not open there, an abandon of a job that wrote
@@ -41,6 +42,7 @@ out-of-turn h an-open j = not (every-of (λ i. ltb i j) (opened h))
 out-of-turn h (a-step k) j = not (has (open-now h) j)
 out-of-turn h an-end j = not (has (open-now h) j)
 out-of-turn h an-abandon j = not (has (open-now h) j) || wrote h j
+out-of-turn h a-publish j = false
 out-of-turn h nothing j = false
 
 -- 14: the 513th open
@@ -49,6 +51,7 @@ too-many h an-open = leb most-jobs (length (opened h))
 too-many h (a-step k) = false
 too-many h an-end = false
 too-many h an-abandon = false
+too-many h a-publish = false
 too-many h nothing = false
 
 unfoldable pub fault-of : History → Request → ℕ

@@ -5,21 +5,22 @@
 -- Assumes nothing.
 use mathlib.Core.Path.{_≡_, refl, sym, ap, _∙_}
 use mathlib.Core.Logic.{_↔_}
-use mathlib.Core.List.{List, _∷_, _++_}
+use mathlib.Core.List.{List, [], _∷_, _++_}
 use Prim.Native.Nat.{ℕ, _+_, _*_, _≤_}
 use native.Mathlib.Omega.{arith}
 use lib.ListN.{length}
 use Rattle.graph.specs.Lists.{_∈_, Before}
-use Rattle.history.specs.Events.{Kind, does, Event, History, opened, kept, Step, kept-steps}
-use Rattle.history.specs.Replies.{Request, history-of}
+use Rattle.history.specs.Events.{Kind, write, does, Event, History, opened, kept, Step, kept-steps}
+use Rattle.history.specs.Replies.{Request, a-publish, want, event-of, reply, after, history-of}
+use Rattle.history.specs.ReplyLaws.{as-kind, after-granted}
 use Rattle.history.specs.Turns.{Turns}
 use Rattle.history.specs.Orders.{layout, Accepted}
 use Rattle.history.specs.Run.{Program, last-write}
 use Rattle.history.specs.OrderLaws.{accepted-no-circle}
 use Rattle.history.specs.Promises.{AsTheLog, one-at-a-time, same-reads, same-ends, real-time, granted-order}
-use Rattle.verdicts.specs.Logs.{Reading, faulty, events, most-jobs, read-log, log-of}
+use Rattle.verdicts.specs.Logs.{Reading, faulty, events, most-jobs, read-log, record-of, log-of}
 use Rattle.verdicts.specs.Verdicts.{Verdict, check, Listed, listed, list-of, list-order}
-use Rattle.verdicts.specs.LogLaws.{Fault, faults, read-turns, read-back, Sized, granted-read}
+use Rattle.verdicts.specs.LogLaws.{Fault, faults, read-turns, log-append, read-back, Sized, granted-read}
 use Rattle.verdicts.specs.VerdictLaws.{Checked, check-right, checked-only, check-exactly, ListedAs, no-room, no-order, an-order, listed-right, Answered, log-faulty, log-read, list-right, answered-only}
 use Rattle.verdicts.specs.SizeLaws.{check-small, list-small, check-apart, list-apart}
 
@@ -142,6 +143,13 @@ granted-listed first rs lent few few-jobs room =
     let h = history-of first rs in
     let r = granted-order first rs in
     gives-exactly (log-of h) lent h (granted-read first rs few few-jobs) room .1 (r .0, r .2)
+
+-- a publish (kind 6) that is granted stands in the log as its two records, the write of its cell and the end of its job
+pub publish-logged : (first : ℕ) (h : History) (r : Request) → reply first h (as-kind 6 r) .code ≡ 0
+    → log-of (after first h (as-kind 6 r)) ≡ log-of h ++ (record-of (Event.steps write (r .job) (r .cell)) ++ record-of (Event.ends (r .job)))
+unfolding event-of
+publish-logged first h r z =
+    ap log-of (after-granted first h (as-kind 6 r) a-publish (unfold want in refl) z) ∙ log-append h (Event.steps write (r .job) (r .cell) ∷ Event.ends (r .job) ∷ [])
 
 -- a log read back: the bytes of a history in turn, within the sizes, are that history
 pub log-reads-back : (h : History) → Turns h → Sized h → read-log (log-of h) ≡ events h

@@ -17,7 +17,7 @@ use Rattle.history.specs.Events.{History, has, opened, abandoned, kept}
 use Rattle.history.specs.Formats.{records}
 use Rattle.history.specs.Granted.{below-bound, passed}
 use Rattle.history.specs.RecordLaws.{records-length}
-use Rattle.history.specs.Replies.{Request, Want, an-open, a-step, an-end, an-abandon, nothing, want, event-of}
+use Rattle.history.specs.Replies.{Request, Want, an-open, a-step, an-end, an-abandon, a-publish, nothing, want, event-of}
 use Rattle.history.specs.TurnLaws.{kept-steps-from, orderly}
 use Rattle.history.specs.Turns.{Turns}
 use Rattle.verdicts.specs.Logs.{record-bytes, most-bytes, most-jobs, ill-formed, out-of-turn, too-many, fault-of, faulty, events, read-from, read-log}
@@ -45,6 +45,7 @@ brings h r few z =
       | a-step k ↦ λ f. omega arith
       | an-end ↦ λ f. omega arith
       | an-abandon ↦ λ f. omega arith
+      | a-publish ↦ λ f. omega arith
       | nothing ↦ λ f. omega arith
     ]
 

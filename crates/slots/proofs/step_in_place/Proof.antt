@@ -3,7 +3,7 @@ use mathlib.Core.Bool.{true, false}
 use borrow.Author.Needs.{needs}
 use Rattle.held.specs.Held.{Held}
 use Rattle.slots.specs.Lent.{lent}
-use Rattle.slots.proofs.RequestLaws.{steps-byte, steps-kind, steps-open, steps-step, steps-end, steps-abandon}
+use Rattle.slots.proofs.RequestLaws.{steps-byte, steps-kind, steps-open, steps-step, steps-end, steps-abandon, steps-publish}
 use Rattle.slots.proofs.step_in_place.Statement.{statement}
 use Rattle.slots.proofs.step_in_place.Tie as tie
 
@@ -47,7 +47,13 @@ returns-abandon c =
     let e = well (m .before) in
     steps-abandon {h = held e} (e .before .args .t6) (e .if1 .left) (m .match .keys5) (m .before .job-in .ensures) (c .abandon-job .ensures)
 
-returns-kind : tie.Need-returns-7
+returns-publish : tie.Need-returns-7
+returns-publish c =
+    let m = c .before .before .before .before in
+    let e = well (m .before) in
+    steps-publish {h = held e} (e .before .args .t6) (e .if1 .left) (m .match .keys6) (m .before .job-in .ensures) (m .before .before .cell-in .ensures) (c .publish-job .ensures)
+
+returns-kind : tie.Need-returns-8
 returns-kind c =
     let e = well (c .before .before) in
     steps-kind {h = held e} (e .before .args .t6) (e .if1 .left) (c .before .match .rest) (c .refused2 .ensures)
@@ -56,5 +62,5 @@ pub step-in-place-spec : {M : Type 1} → statement M
 step-in-place-spec =
     tie.close
     (tie.spec (λ c. search needs) (λ c κs. search needs) returns-byte (λ c. search needs) (λ c κs. search needs) (λ c κs. search needs) (λ c κs. search needs)
-    (λ c κs. search needs) (λ c κs. search needs) (λ c κs. search needs) (λ c κs. search needs) (λ c κs. search needs)
-    returns-open returns-read returns-write returns-end returns-abandon returns-kind)
+    (λ c κs. search needs) (λ c κs. search needs) (λ c κs. search needs) (λ c κs. search needs) (λ c κs. search needs) (λ c κs. search needs)
+    returns-open returns-read returns-write returns-end returns-abandon returns-publish returns-kind)
