@@ -174,6 +174,33 @@ uint64_t reedtangle_check_order(const uint8_t *log, size_t length, const uint32_
  */
 uint64_t reedtangle_list_order(const uint8_t *log, size_t length, uint32_t *out, size_t room);
 
+/* ---- the second profile: two functions more, in libarbiter.a
+ *
+ * In this profile reads are granted as they come, and a job writes and ends by one publish, which is tested then. The state has the same form and is made by
+ * reedtangle_fresh, and it belongs to the profile that it was started in: it holds other facts, so a state that was asked by reedtangle_step is not for these two, nor the other
+ * way round. A call on such a state still ends, with one answer, which is that of no history. What is said above of all functions holds of these.
+ *
+ * A cell set is four words of 64 marks: cell c is bit c % 64 of word c / 64.
+ */
+
+/*
+ * One request, eight bytes: an open, a read or an abandon. Comes back: code times 2^32 plus job, as from reedtangle_step. Tested in this sequence: open 1, 6, 5; read 1, 2,
+ * 3; abandon 1, 3, 4. Any other kind gets 1. A read never gets 7; and as a job writes at its end alone, an abandon never gets 4 from a fresh state on.
+ */
+uint64_t reedtangle_late_step(uint64_t *next, uint32_t *free, uint32_t *numbers, uint32_t *leads, uint64_t *sets, const uint8_t *request);
+
+/*
+ * A job writes the cells of a set, any or none, and ends. Comes back: code times 2^32 plus job, the job for a grant and 0 for a refusal.
+ *
+ *     0    granted; in a log it is a write for each cell, the lowest first, and the end: reedtangle_put_published below makes these
+ *     3    the job is not open
+ *     7    the jobs that have ended and this one, with these writes at its end, would have no order that will do. Other open jobs do not count. The job is open as before
+ *
+ * From a fresh state on this is exact, and the log of what was granted, without the records of the jobs still open, is never at fault and always has an order, within the sizes of
+ * a log.
+ */
+uint64_t reedtangle_publish(uint64_t *next, uint32_t *free, uint32_t *numbers, uint32_t *leads, uint64_t *sets, uint32_t job, const uint64_t *cells);
+
 /* ---- ledger blocks: two functions more, in an archive of their own, target/staticlib/libledger.a (`rt staticlib ledger`)
  *
  * A log in blocks of 512 bytes: the block's number from 0 in four bytes, the count of its records in two, two zero bytes, 62 places of eight bytes,
@@ -347,6 +374,66 @@ static inline size_t reedtangle_put_records(uint8_t *bytes, const uint8_t *reque
     reedtangle_put_request(bytes, REEDTANGLE_WRITE, (uint16_t)(request[2] | (request[3] << 8)), job);
     reedtangle_put_request(bytes + 8, REEDTANGLE_END, 0, job);
     return 16;
+}
+
+/* ---- the second profile: its state, of a type of its own so that it is not asked by the first profile's rule, and wrappers that take it */
+
+enum {
+    REEDTANGLE_CELL_WORDS = 4,          /* words of a cell set */
+    REEDTANGLE_PUBLISHED_BYTES = 2056   /* room for the records of any publish: 256 writes and the end */
+};
+
+typedef struct reedtangle_late {
+    reedtangle_state state;
+} reedtangle_late;
+
+/* reedtangle_fresh on a state of the second profile. */
+static inline void reedtangle_late_start(reedtangle_late *late, uint32_t first)
+{
+    reedtangle_start(&late->state, first);
+}
+
+/* reedtangle_late_step on it. The eight bytes of the request are not within the state. */
+static inline reedtangle_reply reedtangle_late_ask(reedtangle_late *late, const uint8_t *request)
+{
+    reedtangle_state *s = &late->state;
+    uint64_t both = reedtangle_late_step(&s->next, &s->free, s->numbers, s->leads, s->sets, request);
+    reedtangle_reply reply;
+    reply.code = (uint32_t)(both >> 32);
+    reply.job = (uint32_t)both;
+    return reply;
+}
+
+/* reedtangle_publish on it. The four words of the set are not within the state. */
+static inline reedtangle_reply reedtangle_late_publish(reedtangle_late *late, uint32_t job, const uint64_t *cells)
+{
+    reedtangle_state *s = &late->state;
+    uint64_t both = reedtangle_publish(&s->next, &s->free, s->numbers, s->leads, s->sets, job, cells);
+    reedtangle_reply reply;
+    reply.code = (uint32_t)(both >> 32);
+    reply.job = (uint32_t)both;
+    return reply;
+}
+
+/* Puts a cell, 0 to 255, into a set. */
+static inline void reedtangle_mark_cell(uint64_t *cells, uint8_t cell)
+{
+    cells[cell / 64] |= (uint64_t)1 << (cell % 64);
+}
+
+/* Puts the records of a publish that was granted: a write for each cell, the lowest first, and the end, at most 2,056 bytes. How many bytes they are. */
+static inline size_t reedtangle_put_published(uint8_t *bytes, uint32_t job, const uint64_t *cells)
+{
+    size_t count = 0;
+    unsigned cell;
+    for (cell = 0; cell < REEDTANGLE_CELLS; cell++) {
+        if (cells[cell / 64] >> (cell % 64) & 1) {
+            reedtangle_put_request(bytes + count, REEDTANGLE_WRITE, (uint16_t)cell, job);
+            count += 8;
+        }
+    }
+    reedtangle_put_request(bytes + count, REEDTANGLE_END, 0, job);
+    return count + 8;
 }
 
 #ifdef __cplusplus

@@ -72,6 +72,7 @@ fi
 for_c night $archives
 for_c ledger $ledger
 for_c batch $batch $archives
+for_c desk $archives
 for_c notation $notation
 for_c small $archives -pthread
 

@@ -5,6 +5,8 @@ mod figures;
 mod flat;
 mod judge;
 mod judge_fast;
+mod late;
+mod late_text;
 mod lines;
 mod logs;
 mod ours;
@@ -18,6 +20,9 @@ mod whole;
 const USE: &str = "bench differ [SEED [REQUESTS]]            the arbiter against two others
 bench verdicts [SEED [LOGS]]              the checker and the lister against two others
 bench tried FILE                          what the tried histories expect
+bench late [SEED [ASKS]]                  the second profile's arbiter against two others
+bench desk FILE                           what the text of the program desk expects, and its output
+bench desk-make SEED WINDOWS ASKS         the streams in that text
 bench programs [FOLDER [SEED [LOGS]]]     the built programs on made files
 bench figures FOLDER                      tables of times, the stack, a picture
 bench flat [RUNS [STRETCHES]]             cost early and late in one history
@@ -37,6 +42,9 @@ fn main() {
         Some("differ") => differ::run(number(1, 1), number(2, 10_000_000)),
         Some("verdicts") => verdicts::run(number(1, 1), number(2, 1_000_000)),
         Some("tried") => tried::run(words.get(1).expect("the file of tried histories")),
+        Some("late") => late::run(number(1, 1), number(2, 4_000_000)),
+        Some("desk") => late_text::run(words.get(1).expect("the file of histories")),
+        Some("desk-make") => late_text::make(number(1, 1), number(2, 3), number(3, 160)),
         Some("programs") => programs::run(
             words.get(1).map_or("../target/bin", |w| w),
             number(2, 1),

@@ -1,7 +1,8 @@
 //! The proved arbiter, checker and lister, by the bindings for Rust, with each answer as document 01's numbers.
 use crate::judge::Verdict;
+use crate::late::Ask;
 use crate::requests::Request;
-use reedtangle::{Arbiter, State};
+use reedtangle::{Arbiter, CellSet, LateArbiter, State};
 
 #[derive(Clone)]
 pub struct Ours(Arbiter);
@@ -32,6 +33,33 @@ impl Ours {
     #[inline]
     pub fn ask(&mut self, r: Request) -> (u32, u32) {
         self.0.answer(r)
+    }
+}
+
+/// The proved arbiter of the second profile.
+pub struct OursLate(LateArbiter);
+
+impl OursLate {
+    pub fn new(first: u32) -> OursLate {
+        // as above, what is fresh is the proved code's own doing
+        let mut o = OursLate::of(Ours::new(9).state().clone());
+        o.0.restart(first);
+        o
+    }
+
+    pub fn of(state: State) -> OursLate {
+        OursLate(LateArbiter::from_state(state))
+    }
+
+    pub fn state(&self) -> &State {
+        self.0.state()
+    }
+
+    pub fn ask(&mut self, a: Ask) -> (u32, u32) {
+        match a {
+            Ask::Request(r) => self.0.answer(r),
+            Ask::Publish(job, cells) => self.0.publish_answer(job, CellSet(cells)),
+        }
     }
 }
 

@@ -63,6 +63,23 @@ extern "C" {
         room: usize,
         written: *mut u64,
     ) -> u32;
+    fn reedtangle_late_step(
+        next: *mut u64,
+        free: *mut u32,
+        numbers: *mut [u32; 32],
+        leads: *mut [u32; 32],
+        sets: *mut [u64; 512],
+        request: *const [u8; 8],
+    ) -> u64;
+    fn reedtangle_publish(
+        next: *mut u64,
+        free: *mut u32,
+        numbers: *mut [u32; 32],
+        leads: *mut [u32; 32],
+        sets: *mut [u64; 512],
+        job: u32,
+        cells: *const [u64; 4],
+    ) -> u64;
     fn reedtangle_check_order(
         log: *const u8,
         length: usize,
@@ -294,12 +311,7 @@ impl Arbiter {
     /// state that the write and the end of the job leave.
     #[inline]
     pub fn ask(&mut self, request: [u8; 8]) -> Result<Job, Refusal> {
-        let (code, job) = self.answer(request);
-        match Refusal::from_code(code) {
-            Some(refusal) => Err(refusal),
-            None if code == 0 => Ok(Job(job)),
-            None => unexpected(code),
-        }
+        granted(self.answer(request))
     }
 
     /// One request as with [`Arbiter::ask`], the answer in document 01's numbers: the code, 0 for a grant, and the job, 0 for a refusal.
@@ -347,6 +359,162 @@ impl Arbiter {
     /// Asks to write a cell and end the job, in one request.
     pub fn publish(&mut self, job: Job, cell: u8) -> Result<Job, Refusal> {
         self.ask(request::publish(job, cell))
+    }
+}
+
+// ---- the second profile
+
+/// A set of cells: cell c is bit c % 64 of word c / 64.
+#[derive(Clone, Copy, PartialEq, Eq, Hash, Debug, Default)]
+pub struct CellSet(pub [u64; 4]);
+
+impl CellSet {
+    /// No cell.
+    pub const NONE: CellSet = CellSet([0; 4]);
+
+    /// The cells named, in any sequence, each once or more.
+    pub const fn of(cells: &[u8]) -> CellSet {
+        let mut set = CellSet::NONE;
+        let mut i = 0;
+        while i < cells.len() {
+            set.0[cells[i] as usize / 64] |= 1 << (cells[i] % 64);
+            i += 1;
+        }
+        set
+    }
+
+    /// Is the cell in the set?
+    pub const fn has(&self, cell: u8) -> bool {
+        self.0[cell as usize / 64] >> (cell % 64) & 1 == 1
+    }
+
+    /// The cells of the set, the lowest first.
+    pub fn cells(self) -> impl Iterator<Item = u8> {
+        (0..=255).filter(move |&cell| self.has(cell))
+    }
+}
+
+/// The bytes of the records of a publish of these cells that was granted: a write for each cell, the lowest first, and the end. Those of a request that a
+/// [`LateArbiter`] granted are one record, by [`record`].
+pub fn published(job: Job, cells: CellSet) -> impl Iterator<Item = u8> {
+    cells
+        .cells()
+        .flat_map(move |cell| request::write(job, cell))
+        .chain(request::end(job))
+}
+
+/// An arbiter of the second profile: reads are granted as they come, and a job writes and ends by one publish, which is tested then.
+///
+/// Its state has the form of an [`Arbiter`]'s and not its meaning: an open job's reads may already stand against each other. A state belongs to the profile it
+/// was started in, so the two are types apart; to hand the state of one to the other is safe and gets answers, and they are those of no history.
+///
+/// ```
+/// use reedtangle::{CellSet, LateArbiter, Refusal};
+///
+/// let mut desk = LateArbiter::new(1);
+/// let (a, b) = (desk.open().unwrap(), desk.open().unwrap());
+/// for job in [a, b] {
+///     desk.read(job, 5).unwrap();
+/// }
+/// assert_eq!(desk.publish(b, CellSet::of(&[5])), Ok(b));
+/// // a has read 5 before b wrote it, and would write it after
+/// assert_eq!(desk.publish(a, CellSet::of(&[5])), Err(Refusal::Circle));
+/// assert_eq!(desk.publish(a, CellSet::of(&[6, 7])), Ok(a));
+/// ```
+#[derive(Clone, PartialEq, Eq, Hash, Debug)]
+pub struct LateArbiter {
+    state: State,
+}
+
+impl LateArbiter {
+    /// No job open. The first job gets the number `first`, which may be any.
+    pub fn new(first: u32) -> LateArbiter {
+        LateArbiter {
+            state: Arbiter::new(first).state,
+        }
+    }
+
+    /// Starts again, in the same memory: what [`LateArbiter::new`] makes, whatever was held before.
+    pub fn restart(&mut self, first: u32) {
+        fresh(first, &mut self.state);
+    }
+
+    /// Goes on from a state that was kept. Any content is safe and gets an answer; that the answers are those of a history holds for
+    /// states that [`LateArbiter::state`] gave.
+    pub const fn from_state(state: State) -> LateArbiter {
+        LateArbiter { state }
+    }
+
+    /// What the arbiter holds.
+    pub const fn state(&self) -> &State {
+        &self.state
+    }
+
+    /// One request, any eight bytes: an open, a read or an abandon, and [`Refusal::Malformed`] for any other kind. A read of an open job on a real cell is
+    /// granted, and an open job may be abandoned until it publishes. A refusal changes no bit of the state.
+    #[inline]
+    pub fn ask(&mut self, request: [u8; 8]) -> Result<Job, Refusal> {
+        granted(self.answer(request))
+    }
+
+    /// One request as with [`LateArbiter::ask`], the answer in document 01's numbers: the code, 0 for a grant, and the job, 0 for a refusal.
+    #[inline]
+    pub fn answer(&mut self, request: [u8; 8]) -> (u32, u32) {
+        let s = &mut self.state;
+        // Five fields of one value and a request apart from it: they do not overlap, and each is as large as its type says.
+        apart(unsafe {
+            reedtangle_late_step(
+                &mut s.next,
+                &mut s.free,
+                &mut s.numbers,
+                &mut s.leads,
+                &mut s.sets,
+                &request,
+            )
+        })
+    }
+
+    /// Asks to write the cells, any or none, and end the job.
+    ///
+    /// [`Refusal::NotOpen`] if the job is not open. From a fresh state, [`Refusal::Circle`] exactly when the jobs that have ended and this one would have no order
+    /// that will do, with these writes put at its end; other open jobs do not count. A refused job is open as before. The log of all that was granted, without the
+    /// records of the jobs still open, always has an order.
+    #[inline]
+    pub fn publish(&mut self, job: Job, cells: CellSet) -> Result<Job, Refusal> {
+        granted(self.publish_answer(job.0, cells))
+    }
+
+    /// A publish as with [`LateArbiter::publish`], the answer in document 01's numbers.
+    #[inline]
+    pub fn publish_answer(&mut self, job: u32, cells: CellSet) -> (u32, u32) {
+        let s = &mut self.state;
+        // Five fields of one value and a set apart from it: they do not overlap, and each is as large as its type says.
+        apart(unsafe {
+            reedtangle_publish(
+                &mut s.next,
+                &mut s.free,
+                &mut s.numbers,
+                &mut s.leads,
+                &mut s.sets,
+                job,
+                &cells.0,
+            )
+        })
+    }
+
+    /// Asks to open a job.
+    pub fn open(&mut self) -> Result<Job, Refusal> {
+        self.ask(request::open())
+    }
+
+    /// Asks to read a cell.
+    pub fn read(&mut self, job: Job, cell: u8) -> Result<Job, Refusal> {
+        self.ask(request::read(job, cell))
+    }
+
+    /// Asks to abandon a job.
+    pub fn abandon(&mut self, job: Job) -> Result<Job, Refusal> {
+        self.ask(request::abandon(job))
     }
 }
 
@@ -599,6 +767,16 @@ pub fn list_order(log: &[u8], out: &mut [u32]) -> Result<usize, NoList> {
             Some(fault) => Err(NoList::Log(fault)),
             None => unexpected(code),
         },
+    }
+}
+
+// A code and a job, as a grant or a refusal.
+#[inline]
+fn granted((code, job): (u32, u32)) -> Result<Job, Refusal> {
+    match Refusal::from_code(code) {
+        Some(refusal) => Err(refusal),
+        None if code == 0 => Ok(Job(job)),
+        None => unexpected(code),
     }
 }
 

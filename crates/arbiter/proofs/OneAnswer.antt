@@ -25,6 +25,10 @@ use Rattle.arbiter.proofs.State.fresh.Kinds as fresh-kinds
 use Rattle.arbiter.proofs.State.fresh.Reads as fresh-reads
 use Rattle.arbiter.proofs.State.step.Kinds as step-kinds
 use Rattle.arbiter.proofs.State.step.Reads as step-reads
+use Rattle.arbiter.proofs.State.late_step.Kinds as late-step-kinds
+use Rattle.arbiter.proofs.State.late_step.Reads as late-step-reads
+use Rattle.arbiter.proofs.State.publish.Kinds as publish-kinds
+use Rattle.arbiter.proofs.State.publish.Reads as publish-reads
 use Rattle.arbiter.proofs.Replayed.code.Kinds as replayed-code-kinds
 use Rattle.arbiter.proofs.Replayed.code.Reads as replayed-code-reads
 use Rattle.arbiter.proofs.Replayed.place.Kinds as replayed-place-kinds
@@ -37,6 +41,10 @@ use Rattle.arbiter.proofs.reedtangle_replay.Reads as export-replay-read
 use Rattle.arbiter.proofs.reedtangle_replay_by_value.Reads as export-by-value-reads
 use Rattle.arbiter.proofs.reedtangle_step.Kinds as export-step-kinds
 use Rattle.arbiter.proofs.reedtangle_step.Reads as export-step-reads
+use Rattle.arbiter.proofs.reedtangle_late_step.Kinds as export-late-kinds
+use Rattle.arbiter.proofs.reedtangle_late_step.Reads as export-late-reads
+use Rattle.arbiter.proofs.reedtangle_publish.Kinds as export-publish-kinds
+use Rattle.arbiter.proofs.reedtangle_publish.Reads as export-publish-reads
 use Rattle.arbiter.proofs.reedtangle_fresh.Kinds as export-fresh-kinds
 use Rattle.arbiter.proofs.reedtangle_fresh.Reads as export-fresh-reads
 
@@ -57,6 +65,18 @@ one-fresh κs a x y s t p q = one-state x y p q
 -- the step by value: the answer and the state
 pub one-step : One 0 step-kinds.ps step-kinds.r step-reads.Post
 one-step κs a x y s t p q =
+    let answer = one-answer (x .answer) (y .answer) (p .0) (q .0) in
+    let state = one-state (x .state) (y .state) (p .1) (q .1) in
+    λ i. record { state = state i; answer = answer i }
+
+pub one-late-step : One 0 late-step-kinds.ps late-step-kinds.r late-step-reads.Post
+one-late-step κs a x y s t p q =
+    let answer = one-answer (x .answer) (y .answer) (p .0) (q .0) in
+    let state = one-state (x .state) (y .state) (p .1) (q .1) in
+    λ i. record { state = state i; answer = answer i }
+
+pub one-publish : One 0 publish-kinds.ps publish-kinds.r publish-reads.Post
+one-publish κs a x y s t p q =
     let answer = one-answer (x .answer) (y .answer) (p .0) (q .0) in
     let state = one-state (x .state) (y .state) (p .1) (q .1) in
     λ i. record { state = state i; answer = answer i }
@@ -115,6 +135,24 @@ pub one-export-step : (κs : Lfts 6) (a : Dens κs export-step-kinds.ps) (x y : 
     → export-step-reads.Post κs a y t
     → (x ≡ y) × (now (s .0) ≡ now (t .0)) × (now (s .1 .0) ≡ now (t .1 .0)) × (now (s .1 .1 .0) ≡ now (t .1 .1 .0)) × (now (s .1 .1 .1 .0) ≡ now (t .1 .1 .1 .0)) × (now (s .1 .1 .1 .1 .0) ≡ now (t .1 .1 .1 .1 .0))
 one-export-step κs a x y s t p q =
+    let left = p .1 ∙ sym (q .1) in
+    (p .0 ∙ sym (q .0), λ i. left i .next, λ i. left i .free, λ i. left i .numbers, λ i. left i .leads, λ i. left i .sets)
+
+pub one-export-late-step : (κs : Lfts 6) (a : Dens κs export-late-kinds.ps) (x y : resT export-late-kinds.r κs .Denot)
+    (s t : AtExit (endedOf 6 export-late-kinds.ps export-late-kinds.r) κs)
+    → export-late-reads.Post κs a x s
+    → export-late-reads.Post κs a y t
+    → (x ≡ y) × (now (s .0) ≡ now (t .0)) × (now (s .1 .0) ≡ now (t .1 .0)) × (now (s .1 .1 .0) ≡ now (t .1 .1 .0)) × (now (s .1 .1 .1 .0) ≡ now (t .1 .1 .1 .0)) × (now (s .1 .1 .1 .1 .0) ≡ now (t .1 .1 .1 .1 .0))
+one-export-late-step κs a x y s t p q =
+    let left = p .1 ∙ sym (q .1) in
+    (p .0 ∙ sym (q .0), λ i. left i .next, λ i. left i .free, λ i. left i .numbers, λ i. left i .leads, λ i. left i .sets)
+
+pub one-export-publish : (κs : Lfts 6) (a : Dens κs export-publish-kinds.ps) (x y : resT export-publish-kinds.r κs .Denot)
+    (s t : AtExit (endedOf 6 export-publish-kinds.ps export-publish-kinds.r) κs)
+    → export-publish-reads.Post κs a x s
+    → export-publish-reads.Post κs a y t
+    → (x ≡ y) × (now (s .0) ≡ now (t .0)) × (now (s .1 .0) ≡ now (t .1 .0)) × (now (s .1 .1 .0) ≡ now (t .1 .1 .0)) × (now (s .1 .1 .1 .0) ≡ now (t .1 .1 .1 .0)) × (now (s .1 .1 .1 .1 .0) ≡ now (t .1 .1 .1 .1 .0))
+one-export-publish κs a x y s t p q =
     let left = p .1 ∙ sym (q .1) in
     (p .0 ∙ sym (q .0), λ i. left i .next, λ i. left i .free, λ i. left i .numbers, λ i. left i .leads, λ i. left i .sets)
 

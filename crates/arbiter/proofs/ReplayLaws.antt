@@ -2,7 +2,7 @@
 --
 -- First the state with no job (`fresh-law`), a list after one run of stores (`Stored`), and what is told of a replay. Then the loop (`Replaying`): the bytes of
 -- all replies are those written so far and those of the answers that the state will give to the records that are left, so that with none left all are
--- written. Last one request in one number, for `reedtangle_step`.
+-- written. Last one request in one number, for `reedtangle_step` and the calls of the second profile.
 -- Assumes nothing.
 use mathlib.Core.Path.{_≡_, refl, sym, ap, ap₂, _∙_}
 use mathlib.Core.List.{List, [], _∷_, _++_, append-nil, append-assoc}
@@ -18,7 +18,9 @@ use Rattle.history.specs.RecordLaws.{first-record, no-record}
 use Rattle.history.specs.Replies.{Reply, Request, replies}
 use Rattle.held.specs.Held.{Held, fresh-held, answer-to, after, answers}
 use Rattle.held.specs.HeldExact.{held-exact}
-use Rattle.slots.specs.Lent.{lent, numbered, Steps}
+use Rattle.late.specs.Late.{Ask}
+use Rattle.late.specs.LateHeld.{late-answer, late-next}
+use Rattle.slots.specs.Lent.{lent, numbered, Steps, Lates}
 use Rattle.slots.specs.declared.Moved.{Moved}
 use Rattle.slots.proofs.RequestLaws.{lent-same}
 use Rattle.arbiter.specs.Replay.{replayed, told, packed}
@@ -187,9 +189,17 @@ module _ {first : ℕ} {requests entry : List ℕ} where
 
 -- ---- one request
 
--- what `reedtangle_step` says, from what `step_in_place` ensures
-pub packs : {h : Held} {q : Request} {r : Moved} {numbers leads sets : List ℕ} {code job : ℕ} → Steps h q r numbers leads sets
-    → code ≡ numbered (r .answer) .code → job ≡ numbered (r .answer) .job
-    → (code * 4294967296 + job ≡ packed (answer-to h q)) × (lent (r .next) (r .free) numbers leads sets ≡ after h q)
+-- its answer in one number, from its code and its job
+pub in-one : {r : Reply} {code job : ℕ} → code ≡ r .code → job ≡ r .job → code * 4294967296 + job ≡ packed r
 unfolding packed
-packs s ec ej = (ap₂ (λ (x y : ℕ). x * 4294967296 + y) ec ej ∙ ap packed (s .answered), s .left)
+in-one ec ej = ap₂ (λ (x y : ℕ). x * 4294967296 + y) ec ej
+
+-- what `reedtangle_step` says, from what `step_in_place` ensures
+pub packs : {h : Held} {q : Request} {r : Moved} {numbers leads sets : List ℕ} {n : ℕ} → Steps h q r numbers leads sets → n ≡ packed (numbered (r .answer))
+    → (n ≡ packed (answer-to h q)) × (lent (r .next) (r .free) numbers leads sets ≡ after h q)
+packs s e = (e ∙ ap packed (s .answered), s .left)
+
+-- and what the calls of the second profile say
+pub packs-late : {h : Held} {a : Ask} {r : Moved} {numbers leads sets : List ℕ} {n : ℕ} → Lates h a r numbers leads sets → n ≡ packed (numbered (r .answer))
+    → (n ≡ packed (late-answer h a)) × (lent (r .next) (r .free) numbers leads sets ≡ late-next h a)
+packs-late s e = (e ∙ ap packed (s .answered), s .left)

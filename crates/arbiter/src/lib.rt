@@ -1,16 +1,21 @@
 // The arbiter: the state by value and its step, a run of requests, and what C and Rust link. The work is done in place on lent arrays, in the crate `slots`
-// (`step_in_place`); the step by value takes the state apart, lends its arrays and puts it together again.
+// (`step_in_place`, and for the second profile `late_in_place` and `publish_in_place`); the step by value takes the state apart, lends its arrays and puts it together again.
 ghost use mathlib.Core.Path.{_≡_};
 ghost use mathlib.Core.List.{[], _++_};
 ghost use Prim.Native.Nat.{_+_, _≤_};
 ghost use lib.ListN.{length, take, drop};
 ghost use Rattle.history.specs.Formats.{bytes-of, request-of};
 ghost use Rattle.held.specs.Held.{fresh-held, answer-to, after};
+ghost use Rattle.late.specs.Late.{asks, publishes};
+ghost use Rattle.late.specs.LateHeld.{late-answer, late-next};
 ghost use Rattle.slots.specs.Lent.{lent, numbered};
 ghost use Rattle.arbiter.specs.Replay.{replayed, told, packed};
+use cells::CellSet;
 pub use slots::Answer;
 pub use slots::JobNumber;
 pub use slots::Moved;
+pub use slots::late_in_place;
+pub use slots::publish_in_place;
 pub use slots::step_in_place;
 
 // ---- the state by value
@@ -74,6 +79,65 @@ impl State {
                 numbers: numbers,
                 leads: leads,
                 sets: sets,
+            },
+            answer: answer,
+        }
+    }
+
+    // The same in the second profile: an open, a read or an abandon.
+    pub fn late_step(self, request: [u8; 8]) -> Stepped
+        ensures { λ r. ⌜ (numbered (r .answer) ≡ late-answer (lent (self .next) (self .free) (self .numbers) (self .leads) (self .sets)) (asks (request-of request)))
+            × (lent (r .state .next) (r .state .free) (r .state .numbers) (r .state .leads) (r .state .sets) ≡ late-next (lent (self .next) (self .free) (self .numbers) (self .leads) (self .sets)) (asks (request-of request))) ⌝ }
+    {
+        let mut numbers_now = self.numbers;
+        let mut leads_now = self.leads;
+        let mut sets_now = self.sets;
+        let left = late_in_place(
+            self.next,
+            self.free,
+            &mut numbers_now,
+            &mut leads_now,
+            &mut sets_now,
+            request,
+        );
+        let answer = left.answer;
+        Stepped {
+            state: State {
+                next: left.next,
+                free: left.free,
+                numbers: numbers_now,
+                leads: leads_now,
+                sets: sets_now,
+            },
+            answer: answer,
+        }
+    }
+
+    // And a publish: the job writes the cells and ends.
+    pub fn publish(self, job: JobNumber, cells: CellSet) -> Stepped
+        ensures { λ r. ⌜ (numbered (r .answer) ≡ late-answer (lent (self .next) (self .free) (self .numbers) (self .leads) (self .sets)) (publishes (job .0) (cells .words)))
+            × (lent (r .state .next) (r .state .free) (r .state .numbers) (r .state .leads) (r .state .sets) ≡ late-next (lent (self .next) (self .free) (self .numbers) (self .leads) (self .sets)) (publishes (job .0) (cells .words))) ⌝ }
+    {
+        let mut numbers_now = self.numbers;
+        let mut leads_now = self.leads;
+        let mut sets_now = self.sets;
+        let left = publish_in_place(
+            self.next,
+            self.free,
+            &mut numbers_now,
+            &mut leads_now,
+            &mut sets_now,
+            job,
+            cells,
+        );
+        let answer = left.answer;
+        Stepped {
+            state: State {
+                next: left.next,
+                free: left.free,
+                numbers: numbers_now,
+                leads: leads_now,
+                sets: sets_now,
             },
             answer: answer,
         }
@@ -212,6 +276,13 @@ pub extern "C" fn reedtangle_replay_by_value(
     0
 }
 
+// An answer in one number: code times 2^32 plus job.
+fn in_one(answer: Answer) -> u64
+    ensures { λ r. ⌜ r ≡ packed (numbered answer) ⌝ }
+{
+    (answer.code() as u64) * 4294967296 + (answer.job().0 as u64)
+}
+
 // One request on the state that the host keeps: code times 2^32 plus job.
 #[no_mangle]
 pub extern "C" fn reedtangle_step(
@@ -229,7 +300,56 @@ pub extern "C" fn reedtangle_step(
     *next = m.next;
     *free = m.free;
     let answer = m.answer;
-    (answer.code() as u64) * 4294967296 + (answer.job().0 as u64)
+    in_one(answer)
+}
+
+// One request of the second profile on it.
+#[no_mangle]
+pub extern "C" fn reedtangle_late_step(
+    next: &mut u64,
+    free: &mut u32,
+    numbers: &mut [u32; 32],
+    leads: &mut [u32; 32],
+    sets: &mut [u64; 512],
+    request: &[u8; 8],
+) -> u64
+    ensures { λ r. ⌜ (r ≡ packed (late-answer (lent (now (next .entry)) (now (free .entry)) (now (numbers .entry)) (now (leads .entry)) (now (sets .entry))) (asks (request-of (now (request .entry))))))
+        × (lent (now (next .exit)) (now (free .exit)) (now (numbers .exit)) (now (leads .exit)) (now (sets .exit)) ≡ late-next (lent (now (next .entry)) (now (free .entry)) (now (numbers .entry)) (now (leads .entry)) (now (sets .entry))) (asks (request-of (now (request .entry))))) ⌝ }
+{
+    let left = late_in_place(*next, *free, numbers, leads, sets, *request);
+    *next = left.next;
+    *free = left.free;
+    let answer = left.answer;
+    in_one(answer)
+}
+
+// The publish of the second profile on it: a job and the four words of a cell set.
+#[no_mangle]
+pub extern "C" fn reedtangle_publish(
+    next: &mut u64,
+    free: &mut u32,
+    numbers: &mut [u32; 32],
+    leads: &mut [u32; 32],
+    sets: &mut [u64; 512],
+    job: u32,
+    cells: &[u64; 4],
+) -> u64
+    ensures { λ r. ⌜ (r ≡ packed (late-answer (lent (now (next .entry)) (now (free .entry)) (now (numbers .entry)) (now (leads .entry)) (now (sets .entry))) (publishes job (now (cells .entry)))))
+        × (lent (now (next .exit)) (now (free .exit)) (now (numbers .exit)) (now (leads .exit)) (now (sets .exit)) ≡ late-next (lent (now (next .entry)) (now (free .entry)) (now (numbers .entry)) (now (leads .entry)) (now (sets .entry))) (publishes job (now (cells .entry)))) ⌝ }
+{
+    let left = publish_in_place(
+        *next,
+        *free,
+        numbers,
+        leads,
+        sets,
+        JobNumber(job),
+        CellSet { words: *cells },
+    );
+    *next = left.next;
+    *free = left.free;
+    let answer = left.answer;
+    in_one(answer)
 }
 
 // The fresh state, in what the host keeps.

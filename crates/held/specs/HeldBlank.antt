@@ -95,7 +95,7 @@ module _ {h : Held} (r : Ranges h) (s : ℕ) (q : s < most-open) where
         words = left-fits (r .words) s q t;
       }
 
-ranges-moves : {h : Held} → Ranges h → Moves Ranges h
+pub ranges-moves : {h : Held} → Ranges h → Moves Ranges h
 ranges-moves r = record { opens = λ s q f small. ranges-opened r s q small; steps = λ k s c q o real. ranges-stepped r s q k c; leaves = λ t s q o only-open. ranges-left r s q t }
 
 -- every request, whatever its fields, keeps the ranges of every state, whatever it holds
@@ -247,7 +247,7 @@ module _ {h : Held} (b : Blank h) (s : ℕ) (q : s < most-open) where
             (answer (eq-test i s));
       }
 
-blank-moves : {h : Held} → Blank h → Moves Blank h
+pub blank-moves : {h : Held} → Blank h → Moves Blank h
 blank-moves b =
     record {
       opens = λ s q f small. blank-opened b s q;

@@ -150,7 +150,7 @@ first-cases P (s ∷ l) n f = f s here
 
 module _ (P : Held → Type 0) (m : (h : Held) → P h → Moves P h) (h : Held) (p : P h) where
   -- what is done at the slot that a number means
-  kept-at : (j : ℕ) (f : ℕ → Held) → ((s : ℕ) → s < most-open → T (open-at h s) → P (f s)) → P (with-slot (slot-of h j) f h)
+  pub kept-at : (j : ℕ) (f : ℕ → Held) → ((s : ℕ) → s < most-open → T (open-at h s) → P (f s)) → P (with-slot (slot-of h j) f h)
   unfolding slot-of open-slots
   kept-at j f g =
       first-cases (λ o. P (with-slot o f h)) (only (λ i. eqb (number-at h i) j) (only (open-at h) (upto most-open))) p
@@ -159,7 +159,7 @@ module _ (P : Held → Type 0) (m : (h : Held) → P h → Moves P h) (h : Held)
       g s (upto-from most-open (r .0)) (r .1))
 
   -- what a granted request does
-  kept-moved : (w : Want) (j c : ℕ) → first-of (tests (facts h) w j c) ≡ 0 → P (moved h w j c)
+  pub kept-moved : (w : Want) (j c : ℕ) → first-of (tests (facts h) w j c) ≡ 0 → P (moved h w j c)
   unfolding moved tests facts free-slot ended-at abandoned-at
   kept-moved an-open j c z =
       first-cases (λ o. P (with-slot o (λ s. opened-at h s) h)) (only (bit (h .free)) (upto most-open)) p

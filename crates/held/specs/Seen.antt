@@ -167,11 +167,11 @@ below-from c zero h = absurd (List·Memᴰ·not-nil h)
 below-from c (suc n) h = ⊎-elim (λ e. let q : c ≡ n = e in omega arith) (λ r. let q = below-from c n r in omega arith) (List·Memᴰ·cases-cons h)
 
 -- a cell is in a set of a row exactly when its mark is in the set's words
-cell-marked : (st : Held) (i o c : ℕ) → c < cells → cell-at st i o c ≡ marked word-marks (set-at st i o) c
+pub cell-marked : (st : Held) (i o c : ℕ) → c < cells → cell-at st i o c ≡ marked word-marks (set-at st i o) c
 unfolding cell-at marked
 cell-marked st i o c q = ap (λ (n : ℕ). bit n (c % word-marks)) (sym (getD-tab set-words (λ w. word-at st i (o + w)) (c / word-marks) 0 (omega arith)))
 
-set-fits : {st : Held} → Fits st → (i o : ℕ) → i < most-open → o + set-words ≤ row-words → Fit word-marks (set-at st i o)
+pub set-fits : {st : Held} → Fits st → (i o : ℕ) → i < most-open → o + set-words ≤ row-words → Fit word-marks (set-at st i o)
 unfolding word-at
 set-fits {st} f i o p q w m =
     let r = tab-member set-words (λ w. word-at st i (o + w)) m in
@@ -190,7 +190,7 @@ set-or-cell {st} f i o p q =
     cell-test = some-test (λ c. own-test (cell-at st i o c)) (below cells)
 
 -- has the job a read or write in its past?
-abbrev any-past : Memory → ℕ → Bool
+abbrev pub any-past : Memory → ℕ → Bool
 any-past m j = some-of (λ k. some-of (λ c. m .past j (does k) c) (below cells)) kinds
 
 module _ {st : Held} {m : Memory} (seen : Seen st m) where
@@ -442,11 +442,11 @@ pub record Unused (m : Memory) (n : ℕ) : Type 0 where
   pub not-led : (i : ℕ) → m .leads i n ≡ false
 
 -- the memory with the next job open
-abbrev opened-in : Memory → Memory
+abbrev pub opened-in : Memory → Memory
 opened-in m = step-in (open-in m (m .next)) opening (m .next) 0
 
 -- its leads, told by reads and writes alone
-abbrev OpenLeads : Memory → Type 0
+abbrev pub OpenLeads : Memory → Type 0
 OpenLeads m = (i x : ℕ) → opened-in m .leads i x ≡ m .leads i x || (eqb x (m .next) && any-past m i)
 
 module _ {first : ℕ} {h : History} {m : Memory} (b : Beside first h m) where
@@ -592,7 +592,7 @@ module _ {st : Held} {m : Memory} (seen : Seen st m) where
       (answer (first-test (bit (st .free)) (upto most-open)))
 
   -- what is done at the slot of a job that was tested to be open
-  at-job : (f : ℕ → Held) (g : ℕ → Memory) (j : ℕ) → (T (not (held right m .is-open j)) → ⊥)
+  pub at-job : (f : ℕ → Held) (g : ℕ → Memory) (j : ℕ) → (T (not (held right m .is-open j)) → ⊥)
       → ((s : ℕ) → s ∈ open-slots st → Seen (f s) (g (number-at st s))) → Seen (with-slot (slot-of st j) f st) (g j)
   unfolding held
   at-job f g j tested h =
@@ -602,7 +602,7 @@ module _ {st : Held} {m : Memory} (seen : Seen st m) where
 
   module _ (unused : Unused m (m .next)) (led : OpenLeads m) (once : Once (m .jobs)) where
     -- what is wanted and gets no code is done alike
-    seen-moved : (w : Want) (j c : ℕ) → first-of (tests (held right m) w j c) ≡ 0
+    pub seen-moved : (w : Want) (j c : ℕ) → first-of (tests (held right m) w j c) ≡ 0
         → Seen (moved st w j c) (move-all right m (event-of (held right m .next) w j c))
     unfolding tests moved event-of move right
     seen-moved an-open j c z =

@@ -39,7 +39,7 @@ same-after : (b : Bool) (n x y : ℕ) → ((T b → ⊥) → x ≡ y) → cond b
 same-after true n x y h = refl
 same-after false n x y h = h (λ t. t)
 
-same-refused : (o p : Bool) (n x y : ℕ) → o ≡ p → (T p → x ≡ y) → cond (not o) n x ≡ cond (not p) n y
+pub same-refused : (o p : Bool) (n x y : ℕ) → o ≡ p → (T p → x ≡ y) → cond (not o) n x ≡ cond (not p) n y
 same-refused o p n x y e h = ap (λ (b : Bool). cond (not b) n x) e ∙ go p h
   where
     go : (b : Bool) → (T b → x ≡ y) → cond (not b) n x ≡ cond (not b) n y
@@ -52,7 +52,7 @@ module _ {f g : Facts} (a : Agree f g) where
       same-after (leb cells c) 2 _ _ (λ no. same-refused (f .is-open j) (g .is-open j) 3 _ _ (a .is-open j)
       (λ o. ap (λ (b : Bool). cond b 7 0) (a .closes k j c o (below-bound cells c no))))
 
-  agree-tests : (w : Want) (j c : ℕ) → first-of (tests f w j c) ≡ first-of (tests g w j c)
+  pub agree-tests : (w : Want) (j c : ℕ) → first-of (tests f w j c) ≡ first-of (tests g w j c)
   unfolding tests
   agree-tests an-open j c =
       ap (λ (n : ℕ). cond (leb numbers n) 6 (cond (leb most-open (f .count)) 5 0)) (a .next)
@@ -131,7 +131,7 @@ module _ {first : ℕ} {h : History} {m : Memory} (b : Beside first h m) where
       next-same : held right m .next ≡ first + length (opened h)
       next-same = unfold held in b .next
 
-next-next : (first : ℕ) (h : History) (m : Memory) (e : Event) → Proper (full first h) e → m .next ≡ first + length (opened h) → move right m e .next ≡ first + length (opened (h ++ e ∷ []))
+pub next-next : (first : ℕ) (h : History) (m : Memory) (e : Event) → Proper (full first h) e → m .next ≡ first + length (opened h) → move right m e .next ≡ first + length (opened (h ++ e ∷ []))
 unfolding full move right open-in step-in blank fold
 next-next first h m (opens n) p q =
     let more : length (opened (h ++ opens n ∷ [])) ≡ length (opened h) + 1 = ap length (opened-grows h (opens n) .joined) ∙ length-append (opened h) (n ∷ []) in

@@ -93,7 +93,7 @@ module _ (first : ℕ) (h : History) where
       go false q = tt
 
 -- what the full history grants is in turn, and leaves no circle
-abbrev Issued : ℕ → History → Type 0
+abbrev pub Issued : ℕ → History → Type 0
 Issued first h = (j : ℕ) → j ∈ opened h → j < first + length (opened h)
 
 module _ (first : ℕ) (h : History) (issued : Issued first h) where
@@ -104,7 +104,7 @@ module _ (first : ℕ) (h : History) (issued : Issued first h) where
   proper-in-turn (ends j) p = has-test (open-now h) j .holds p
   proper-in-turn (abandons j) p = (has-test (open-now h) j .holds (p .0), p .1)
 
-  issued-next : (e : Event) → Proper (full first h) e → Issued first (h ++ e ∷ [])
+  pub issued-next : (e : Event) → Proper (full first h) e → Issued first (h ++ e ∷ [])
   unfolding full
   issued-next (opens n) p j m =
       let more : length (opened (h ++ opens n ∷ [])) ≡ length (opened h) + 1 = ap length (opened-grows h (opens n) .joined) ∙ length-append (opened h) (n ∷ []) in
@@ -114,7 +114,7 @@ module _ (first : ℕ) (h : History) (issued : Issued first h) where
   issued-next (abandons i) p j m = subst (λ (l : List ℕ). j ∈ l → j < first + length l) (sym (stays (opened-grows h (abandons i)))) (issued j) m
 
 -- a number that is issued is one of the job numbers
-range-next : (first : ℕ) (h : History) → ((j : ℕ) → j ∈ opened h → j < numbers) → (e : Event) → Proper (full first h) e → (j : ℕ) → j ∈ opened (h ++ e ∷ []) → j < numbers
+pub range-next : (first : ℕ) (h : History) → ((j : ℕ) → j ∈ opened h → j < numbers) → (e : Event) → Proper (full first h) e → (j : ℕ) → j ∈ opened (h ++ e ∷ []) → j < numbers
 range-next first h small e p j m = ⊎-elim (small j) (fresh e p) (which-in (opened-grows h e) m)
   where
     fresh : (e : Event) → Proper (full first h) e → j ∈ opened-by e → j < numbers
@@ -128,7 +128,7 @@ unfolding strike
 strike-length j l = only-length (λ i. not (eqb i j)) l
 
 -- an open adds one job where fewer than 32 are open; no other event adds any
-few-next : (first : ℕ) (h : History) → Turns h → Issued first h → length (open-now h) ≤ most-open → (e : Event) → Proper (full first h) e → length (open-now (h ++ e ∷ [])) ≤ most-open
+pub few-next : (first : ℕ) (h : History) → Turns h → Issued first h → length (open-now h) ≤ most-open → (e : Event) → Proper (full first h) e → length (open-now (h ++ e ∷ [])) ≤ most-open
 unfolding full
 few-next first h t issued few (opens n) p =
     let o = orderly h t in

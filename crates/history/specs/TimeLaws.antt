@@ -31,12 +31,12 @@ use Rattle.history.specs.Exact.{below-has}
 -- ---- steps and events
 
 -- the event that a step is
-abbrev event-by : Deed → ℕ → ℕ → Event
+abbrev pub event-by : Deed → ℕ → ℕ → Event
 event-by (does k) j c = steps k j c
 event-by opening j c = opens j
 event-by ending j c = ends j
 
-abbrev event-as : Step → Event
+abbrev pub event-as : Step → Event
 event-as a = event-by (a .deed) (a .job) (a .cell)
 
 its-event : (n : ℕ) (e : Event) {a : Step} → a ∈ step-by n e → event-as a ≡ e
@@ -46,7 +46,7 @@ its-event n (ends j) m = ap event-as (List·Memᴰ·eq-of-singleton m)
 its-event n (abandons j) m = absurd (List·Memᴰ·not-nil m)
 
 -- each step is an event of the history, and two of them stand there as they stand among the steps
-steps-in : (n : ℕ) (h : History) {a : Step} → a ∈ steps-from n h → event-as a ∈ h
+pub steps-in : (n : ℕ) (h : History) {a : Step} → a ∈ steps-from n h → event-as a ∈ h
 steps-in n [] m = absurd (List·Memᴰ·not-nil m)
 steps-in n (e ∷ h) m = ⊎-elim (λ k. List·Memᴰ·head (its-event n e k)) (λ k. later (steps-in (suc n) h k)) (List·Memᴰ·append-cases (step-by n e) m)
 
@@ -59,7 +59,7 @@ steps-before n (e ∷ h) r =
     (before-append (step-by n e) r)
 
 -- and the other way round
-events-in : {e : Event} {h : History} (n : ℕ) → e ∈ h → (p : ℕ) × ((a : Step) → a ∈ step-by p e → a ∈ steps-from n h)
+pub events-in : {e : Event} {h : History} (n : ℕ) → e ∈ h → (p : ℕ) × ((a : Step) → a ∈ step-by p e → a ∈ steps-from n h)
 events-in n (List·Memᴰ·head {xs = h} q) = (n, λ a m. Memᴰ·append-left (steps-from (suc n) h) (subst (λ (x : Event). a ∈ step-by n x) q m))
 events-in n (List·Memᴰ·tail {x = x} m) = let r = events-in (suc n) m in (r .0, λ a k. Memᴰ·append-right (step-by n x) (r .1 a k))
 

@@ -28,7 +28,7 @@ use Rattle.slots.specs.Rows.{met, touches, clash-word, past-word}
 -- ---- the words that the code reads
 
 -- a write clashes with any sets that have the cell, a read with those where it is written
-meets-is : (f : Kind → ℕ → Bool) (w : Bool) (c : ℕ) → meets f (kind-of w) c ≡ cond w (f read c || f write c) (f write c)
+pub meets-is : (f : Kind → ℕ → Bool) (w : Bool) (c : ℕ) → meets f (kind-of w) c ≡ cond w (f read c || f write c) (f write c)
 unfolding meets
 meets-is f true c = ap₂ _||_ (and-true (f read c)) (or-false (f write c && true) ∙ and-true (f write c))
 meets-is f false c = ap₂ _||_ (and-false (f read c)) (or-false (f write c && true) ∙ and-true (f write c))

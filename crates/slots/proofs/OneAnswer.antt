@@ -1,5 +1,5 @@
 -- Each contract of the crate's public functions leaves one result: two results that meet it are equal. A theorem for each function, named after it, of the
--- contract itself: `Post` is what Rattle reads of the function's `ensures`. For the step in place the three arrays at exit are equal too.
+-- contract itself: `Post` is what Rattle reads of the function's `ensures`. For what is done in place the three arrays at exit are equal too.
 --
 -- A contract gives a part of the result, as the reply that an answer is numbered and the state that the arrays make, from which the whole can be made
 -- again (`one-part`). For an answer that is so since `numbered` can be undone (`answer-back`).
@@ -23,6 +23,10 @@ use Rattle.slots.proofs.Answer.job.Kinds as job-kinds
 use Rattle.slots.proofs.Answer.job.Reads as job-reads
 use Rattle.slots.proofs.step_in_place.Kinds as in-place-kinds
 use Rattle.slots.proofs.step_in_place.Reads as in-place-reads
+use Rattle.slots.proofs.late_in_place.Kinds as late-kinds
+use Rattle.slots.proofs.late_in_place.Reads as late-reads
+use Rattle.slots.proofs.publish_in_place.Kinds as publish-kinds
+use Rattle.slots.proofs.publish_in_place.Reads as publish-reads
 
 pub one-part : {R X : Type 0} (part : R → X) (whole : X → R) → ((r : R) → whole (part r) ≡ r) → {v : X} (r s : R) → part r ≡ v → part s ≡ v → r ≡ s
 one-part part whole back r s p q = sym (back r) ∙ ap whole (p ∙ sym q) ∙ back s
@@ -66,6 +70,27 @@ pub one-step-in-place : (κs : Lfts 3) (a : Dens κs in-place-kinds.ps) (x y : r
     → in-place-reads.Post κs a y t
     → (x ≡ y) × (now (s .1 .1 .0) ≡ now (t .1 .1 .0)) × (now (s .1 .1 .1 .0) ≡ now (t .1 .1 .1 .0)) × (now (s .1 .1 .1 .1 .0) ≡ now (t .1 .1 .1 .1 .0))
 one-step-in-place κs a x y s t p q =
+    let answer = one-answer (x .answer) (y .answer) (p .answered) (q .answered) in
+    let left = p .left ∙ sym (q .left) in
+    (λ i. record { next = left i .next; free = left i .free; answer = answer i }, λ i. left i .numbers, λ i. left i .leads, λ i. left i .sets)
+
+-- the same of the second profile: a request, and a publish
+pub one-late-in-place : (κs : Lfts 3) (a : Dens κs late-kinds.ps) (x y : resT late-kinds.r κs .Denot)
+    (s t : AtExit (endedOf 3 late-kinds.ps late-kinds.r) κs)
+    → late-reads.Post κs a x s
+    → late-reads.Post κs a y t
+    → (x ≡ y) × (now (s .1 .1 .0) ≡ now (t .1 .1 .0)) × (now (s .1 .1 .1 .0) ≡ now (t .1 .1 .1 .0)) × (now (s .1 .1 .1 .1 .0) ≡ now (t .1 .1 .1 .1 .0))
+one-late-in-place κs a x y s t p q =
+    let answer = one-answer (x .answer) (y .answer) (p .answered) (q .answered) in
+    let left = p .left ∙ sym (q .left) in
+    (λ i. record { next = left i .next; free = left i .free; answer = answer i }, λ i. left i .numbers, λ i. left i .leads, λ i. left i .sets)
+
+pub one-publish-in-place : (κs : Lfts 3) (a : Dens κs publish-kinds.ps) (x y : resT publish-kinds.r κs .Denot)
+    (s t : AtExit (endedOf 3 publish-kinds.ps publish-kinds.r) κs)
+    → publish-reads.Post κs a x s
+    → publish-reads.Post κs a y t
+    → (x ≡ y) × (now (s .1 .1 .0) ≡ now (t .1 .1 .0)) × (now (s .1 .1 .1 .0) ≡ now (t .1 .1 .1 .0)) × (now (s .1 .1 .1 .1 .0) ≡ now (t .1 .1 .1 .1 .0))
+one-publish-in-place κs a x y s t p q =
     let answer = one-answer (x .answer) (y .answer) (p .answered) (q .answered) in
     let left = p .left ∙ sym (q .left) in
     (λ i. record { next = left i .next; free = left i .free; answer = answer i }, λ i. left i .numbers, λ i. left i .leads, λ i. left i .sets)

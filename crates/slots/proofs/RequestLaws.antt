@@ -384,7 +384,7 @@ own-place true = refl
 own-place false = refl
 
 -- rows that gain by a mask gain by the mask's rule
-gained-by : (leads : List ℕ) (p : ℕ → Bool) (gain : ℕ) {from : ℕ} → from ≡ mask-of 32 p → gained leads (bit from) gain ≡ gained leads p gain
+pub gained-by : (leads : List ℕ) (p : ℕ → Bool) (gain : ℕ) {from : ℕ} → from ≡ mask-of 32 p → gained leads (bit from) gain ≡ gained leads p gain
 gained-by leads p gain {from} e =
     tab-same 32 (gained-row leads (bit from) gain) (gained-row leads p gain) (λ i q. ap (λ (b : Bool). cond b (bitOr (getD leads i 0) gain) (getD leads i 0)) (bit-of 32 p e i q))
 
@@ -448,23 +448,31 @@ abandon-code : (h : Held) (j c : ℕ) {s : ℕ} {words : List ℕ} {is-empty b :
     → Part (h .sets) (s * 16 + 4) words → is-empty ≡ empty words → not is-empty ≡ b → code-for h an-abandon j c ≡ cond b 4 0
 abandon-code h j c {s} e t eb y = code-abandon h j c e (altered-law h s t ∙ ap not (sym eb) ∙ y)
 
-module _ {h : Held} {j c s : ℕ} {r : Moved} (f : Found h j s) where
-  pub does-end-granted : {from : ℕ} {leads₁ sets₁ numbers leads sets : List ℕ} → h .free < 2 ^ 32 → from ≡ mask-of 32 (leads-to (h .free) (h .leads) s)
-      → sets₁ ≡ folded (h .sets) (bit from) s → leads₁ ≡ gained (h .leads) (bit from) (theirs (h .free) (h .leads) s)
-      → Leaves (lent (h .next) (h .free) (h .numbers) leads₁ sets₁) s j r numbers leads sets → Does h an-end j c r numbers leads sets
-  unfolding moved ended-at leads-at open-at job-of
-  does-end-granted {from} {leads₁} {sets₁} fits ef es el l =
-      does-by 0 (code-end h j c (f .first)) (l .2)
-      (left-as h t s j r leads₁ sets₁ fits
+-- the others that lead to s have taken over, and s is left
+pub slot-ends : (h : Held) (s : ℕ) (r : Moved) {j from : ℕ} {leads₁ sets₁ numbers leads sets : List ℕ} → h .free < 2 ^ 32 → from ≡ mask-of 32 (leads-to (h .free) (h .leads) s)
+    → sets₁ ≡ folded (h .sets) (bit from) s → leads₁ ≡ gained (h .leads) (bit from) (theirs (h .free) (h .leads) s)
+    → Leaves (lent (h .next) (h .free) (h .numbers) leads₁ sets₁) s j r numbers leads sets
+    → (numbered (r .answer) ≡ record { code = 0; job = j }) × (lent (r .next) (r .free) numbers leads sets ≡ ended-at h s)
+unfolding ended-at leads-at open-at
+slot-ends h s r {j} {from} {leads₁} {sets₁} fits ef es el l = (
+  l .2,
+  left-as h t s j r leads₁ sets₁ fits
       (λ i q. ap (λ (x : List ℕ). getD x i 0) (el ∙ gained-by (h .leads) t gain ef) ∙ getD-tab 32 (gained-row (h .leads) t gain) i 0 q)
       (λ w q. ap (λ (x : List ℕ). getD x w 0) (es ∙ folded-by (h .sets) t s ef) ∙ getD-tab 512 (folded-word (h .sets) t s) w 0 q)
-      l ∙ ap (λ (o : Option ℕ). with-slot o (λ s. ended-at h s) h) (sym (f .first)))
-    where
-      t : ℕ → Bool
-      t = leads-to (h .free) (h .leads) s
+      l,
+)
+  where
+    t : ℕ → Bool
+    t = leads-to (h .free) (h .leads) s
 
-      gain : ℕ
-      gain = theirs (h .free) (h .leads) s
+    gain : ℕ
+    gain = theirs (h .free) (h .leads) s
+
+module _ {h : Held} {j c s : ℕ} {r : Moved} (f : Found h j s) where
+  pub does-end-granted : {numbers leads sets : List ℕ} → (numbered (r .answer) ≡ record { code = 0; job = j }) × (lent (r .next) (r .free) numbers leads sets ≡ ended-at h s)
+      → Does h an-end j c r numbers leads sets
+  unfolding moved job-of
+  does-end-granted l = does-by 0 (code-end h j c (f .first)) (l .0) (l .1 ∙ ap (λ (o : Option ℕ). with-slot o (λ s. ended-at h s) h) (sym (f .first)))
 
   module _ {words : List ℕ} {is-empty : Bool} (t : Part (h .sets) (s * 16 + 4) words) (eb : is-empty ≡ empty words) where
     pub does-abandon-written : not is-empty ≡ true → Refused h HasWritten r → Does h an-abandon j c r (h .numbers) (h .leads) (h .sets)

@@ -1,7 +1,7 @@
 -- The lent sets, word by word, as tables.
 --
 -- In order: words that code stores one after the other (`written`), four of them (`written-set`) or a row of zeros (`written-blank`); four words that are
--- taken out (`Part`), changed and stored back, with one mark more (`marked-set`) or joined with two other fours (`gained-set`); a row's past that gains own and
+-- taken out (`Part`), changed and stored back, with one mark more (`marked-set`), joined with a set (`joined-set`) or with two other fours (`gained-set`); a row's past that gains own and
 -- past of another row (`taken-over`), and a loop that does so for every row of a mask (`Folding`). How many words there are is a parameter, m.
 -- Loops over the marks of a mask in general are in the crate marks (MaskLaws), and what words say of clashes is in ClashLaws.
 -- Assumes nothing.
@@ -22,6 +22,7 @@ use Rattle.marks.specs.Marks.{bit, tab}
 use Rattle.marks.specs.MarkLaws.{length-tab, getD-tab, tab-same, lowest-mark}
 use Rattle.marks.specs.MaskLaws.{tab-of, getD-set, Visiting, visit-start, visit-turn, visit-kept, visit-end}
 use Rattle.marks.specs.Words.{with-mark, union}
+use Rattle.cells.proofs.Laws.{written-out}
 use Rattle.slots.specs.Rows.{gained-word, folded-word}
 
 -- ---- words stored one after the other
@@ -83,7 +84,7 @@ pub record Part (l : List ℕ) (at : ℕ) (ws : List ℕ) : Type 0 where
   pub four : length ws ≡ 4
   pub from : ws ≡ take 4 (drop at l)
 
-part-at : {l ws : List ℕ} {at : ℕ} (k : ℕ) → Part l at ws → k < 4 → getD ws k 0 ≡ getD l (at + k) 0
+pub part-at : {l ws : List ℕ} {at : ℕ} (k : ℕ) → Part l at ws → k < 4 → getD ws k 0 ≡ getD l (at + k) 0
 part-at {l} {at} k t q = ap (λ (v : List ℕ). getD v k 0) (t .from) ∙ getD-take 4 (drop at l) k 0 q ∙ getD-drop at l k 0
 
 pub part-tab : {l ws : List ℕ} {at : ℕ} → Part l at ws → ws ≡ tab 4 (λ k. getD l (at + k) 0)
@@ -118,6 +119,21 @@ marked-set {ws} {vs} {p} m l at c h t new place =
         by-test (λ (b : Bool). cond b (getD vs (w - at) 0) (getD l w 0) ≡ getD l w 0) (within at w)
         (λ r. ap (λ (v : List ℕ). getD v (w - at) 0) new ∙ getD-set-other ws (c / 64) (w - at) x 0 (λ e. ne (omega arith))
         ∙ part-at (w - at) t (omega arith) ∙ ap (λ (k : ℕ). getD l k 0) (omega arith)) (λ f. refl)
+
+-- They are joined with the words of a set.
+pub joined-set : {ws ys : List ℕ} (m : ℕ) (l : List ℕ) (at : ℕ) (vs : List ℕ) → Part l at ws → length vs ≡ 4 → ys ≡ union ws vs
+    → tab m (put l at ys) ≡ tab m (λ w. cond (leb at w && leb w (at + 3)) (bitOr (getD l w 0) (getD vs (w - at) 0)) (getD l w 0))
+joined-set {ws} {ys} m l at vs t four ey =
+    tab-same m _ _ (λ w q.
+    by-test (λ (b : Bool). cond b (getD ys (w - at) 0) (getD l w 0) ≡ cond b (bitOr (getD l w 0) (getD vs (w - at) 0)) (getD l w 0)) (within at w)
+    (λ r. ap (λ (v : List ℕ). getD v (w - at) 0) whole ∙ getD-tab 4 sum (w - at) 0 (omega arith)
+    ∙ ap (λ (k : ℕ). bitOr (getD l k 0) (getD vs (w - at) 0)) (omega arith)) (λ f. refl))
+  where
+    sum : ℕ → ℕ
+    sum k = bitOr (getD l (at + k) 0) (getD vs k 0)
+
+    whole : ys ≡ tab 4 sum
+    whole = ey ∙ ap₂ union (part-tab t) (sym (written-out 4 vs four))
 
 -- three words joined
 abbrev three : List ℕ → ℕ → ℕ → ℕ → ℕ

@@ -8,6 +8,8 @@ use lib.Dec.{eqb}
 use Rattle.history.specs.Events.{Kind, read, write}
 use Rattle.history.specs.Replies.{Request, Reply, Want, first-of, tests, job-of}
 use Rattle.held.specs.Held.{Held, facts, moved, answer-to, after}
+use Rattle.late.specs.Late.{Ask}
+use Rattle.late.specs.LateHeld.{late-answer, late-next}
 use Rattle.slots.specs.declared.JobNumber.{JobNumber}
 use Rattle.slots.specs.declared.Answer.{Answer}
 use Rattle.slots.specs.declared.Answer.the-variants.{Granted, Malformed, NoCell, NotOpen, HasWritten, Full, Spent, Circle}
@@ -48,3 +50,11 @@ pub record Does (h : Held) (w : Want) (j c : ℕ) (r : Moved) (numbers leads set
 pub record Steps (h : Held) (q : Request) (r : Moved) (numbers leads sets : List ℕ) : Type 0 where
   pub answered : numbered (r .answer) ≡ answer-to h q
   pub left : lent (r .next) (r .free) numbers leads sets ≡ after h q
+
+-- what is asked in the second profile leaves, by the rule of the crate late; and a read, as it is asked there
+pub record Lates (h : Held) (a : Ask) (r : Moved) (numbers leads sets : List ℕ) : Type 0 where
+  pub answered : numbered (r .answer) ≡ late-answer h a
+  pub left : lent (r .next) (r .free) numbers leads sets ≡ late-next h a
+
+abbrev pub reading : ℕ → ℕ → Request
+reading j c = record { kind = 2; byte1 = 0; cell = c; job = j }

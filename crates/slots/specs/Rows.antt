@@ -7,11 +7,13 @@ use Prim.Native.Nat.{ℕ, _+_, _-_, _*_, _/_, _%_, _^_}
 use lib.Bits.{bitOr, bitAnd}
 use lib.Dec.{leb, eqb}
 use lib.ListN.{getD}
+use Rattle.graph.specs.Decide.{some-of}
 use Rattle.graph.specs.Lists.{only}
 use Rattle.graph.specs.Reach.{reach}
 use Rattle.marks.specs.Marks.{bit, without, tab, upto}
-use Rattle.history.specs.Events.{Kind}
+use Rattle.history.specs.Events.{Kind, write}
 use Rattle.held.specs.Held.{touched}
+use Rattle.late.specs.Late.{named}
 use Rattle.slots.specs.Lent.{sets-only}
 
 -- ---- masks of slots
@@ -36,6 +38,10 @@ met sets k c i = touched (sets-only sets) k 32 c i
 
 abbrev pub touches : ℕ → List ℕ → Kind → ℕ → ℕ → ℕ → Bool
 touches free sets k s c i = is-open free i && touched (sets-only sets) k s c i
+
+-- touched by a write of s of some cell of the set
+abbrev pub meets-some : List ℕ → ℕ → List ℕ → ℕ → Bool
+meets-some sets s ws i = some-of (λ c. touched (sets-only sets) write s c i) (named ws)
 
 -- the leads of s to open slots
 abbrev pub theirs : ℕ → List ℕ → ℕ → ℕ
@@ -89,3 +95,10 @@ folded sets p s = tab 512 (folded-word sets p s)
 
 abbrev pub marked-own : List ℕ → ℕ → ℕ → ℕ → List ℕ
 marked-own sets s place c = tab 512 (λ w. cond (eqb w (s * 16 + (place + c / 64))) (bitOr (getD sets w 0) (2 ^ (c % 64))) (getD sets w 0))
+
+-- the own writes of s gain the cells of a set, word by word
+abbrev pub joined-word : List ℕ → ℕ → List ℕ → ℕ → ℕ
+joined-word sets s ws w = cond (leb (s * 16 + 4) w && leb w (s * 16 + 4 + 3)) (bitOr (getD sets w 0) (getD ws (w - (s * 16 + 4)) 0)) (getD sets w 0)
+
+abbrev pub joined-own : List ℕ → ℕ → List ℕ → List ℕ
+joined-own sets s ws = tab 512 (joined-word sets s ws)

@@ -1,5 +1,6 @@
-// The slots: one request in place, on the arrays of a state that are lent (`step_in_place`), with the answers and the sorts of number. The crate `arbiter` keeps the
-// state by value over it, runs many requests, and has what C and Rust link.
+// The slots: one request in place, on the arrays of a state that are lent (`step_in_place`), with the answers and the sorts of number. The second profile over the same
+// arrays is two calls, a request (`late_in_place`) and a publish of a cell set (`publish_in_place`). The crate `arbiter` keeps the state by value over them, runs many
+// requests, and has what C and Rust link.
 ghost use mathlib.Core.Path.{_≡_};
 ghost use mathlib.Core.Bool.{false, _&&_, cond};
 ghost use Prim.Native.Nat.{_+_, _-_, _*_, _/_, _%_, _^_, _≤_, _<_};
@@ -10,9 +11,10 @@ ghost use lib.ListN.{getD, take, drop};
 ghost use Rattle.marks.specs.Marks.{bit, mask-of, tab};
 ghost use Rattle.history.specs.Formats.{request-of};
 ghost use Rattle.history.specs.Replies.{an-open, a-step, an-end, an-abandon, a-publish};
-ghost use Rattle.held.specs.Held.{has-past};
-ghost use Rattle.slots.specs.Lent.{lent, sets-only, numbered, kind-of, Does, Steps};
-ghost use Rattle.slots.specs.Rows.{holds, leads-to, reaches, met, touches, theirs, clash-word, past-word, put, struck, gained, blanked, folded, marked-own};
+ghost use Rattle.held.specs.Held.{has-past, ended-at};
+ghost use Rattle.late.specs.Late.{asks, publishes};
+ghost use Rattle.slots.specs.Lent.{lent, sets-only, numbered, kind-of, reading, Does, Steps, Lates};
+ghost use Rattle.slots.specs.Rows.{holds, leads-to, reaches, met, touches, meets-some, theirs, clash-word, past-word, put, struck, gained, blanked, folded, marked-own, joined-own};
 use cells::Cell;
 use cells::CellSet;
 
@@ -217,6 +219,36 @@ fn touching(free: u32, sets: &[u64; 512], slot: Slot, write: bool, cell: Cell) -
     found
 }
 
+// Does the row come to lead to the slot when that writes the cells: is some of them in its past, or, in another row, in its own?
+fn meets_some(sets: &[u64; 512], row: Slot, slot: Slot, cells: CellSet) -> bool
+    requires { ⌜ row .0 < 32 ⌝ }
+    ensures { λ r. ⌜ r ≡ meets-some (now (sets .entry)) (slot .0) (cells .words) (row .0) ⌝ }
+{
+    let at = (row.0 as usize) * 16;
+    let past = load(sets, at + 8).union(load(sets, at + 12));
+    if row.0 == slot.0 {
+        return past.overlaps(cells);
+    }
+    past.union(load(sets, at).union(load(sets, at + 4)))
+        .overlaps(cells)
+}
+
+// The open slots that do.
+fn meeting_some(free: u32, sets: &[u64; 512], slot: Slot, cells: CellSet) -> u32
+    ensures { λ r. ⌜ r ≡ mask-of 32 (λ i. bit (2 ^ 32 - 1 - free) i && meets-some (now (sets .entry)) (slot .0) (cells .words) i) ⌝ }
+{
+    let mut found: u32 = 0;
+    let mut todo = !free;
+    while todo != 0 {
+        let i = u32::trailing_zeros(todo);
+        todo &= todo - 1;
+        if meets_some(sets, Slot(i), slot, cells) {
+            found |= 1u32 << i;
+        }
+    }
+    found
+}
+
 // ---- rows changed. An array is taken as a slice first: a slice tells the proof how long it is and that its elements are in range, a reference to an array does not.
 
 // The slots of the mask come to lead to the slot.
@@ -295,6 +327,16 @@ fn mark_own(sets: &mut [u64; 512], slot: Slot, write: bool, cell: Cell)
         at += 4;
     }
     let own = load(sets, at).with(cell);
+    store(sets, at, own);
+}
+
+// The slot's own writes gain the cells.
+fn join_own(sets: &mut [u64; 512], slot: Slot, cells: CellSet)
+    requires { ⌜ slot .0 < 32 ⌝ }
+    ensures { λ _. ⌜ now (sets .exit) ≡ joined-own (now (sets .entry)) (slot .0) (cells .words) ⌝ }
+{
+    let at = (slot.0 as usize) * 16 + 4;
+    let own = load(sets, at).union(cells);
     store(sets, at, own);
 }
 
@@ -475,6 +517,26 @@ fn leave(
     }
 }
 
+// The slot ends: the other open rows that lead to it take over, and it is left.
+fn end_slot(
+    next: u64,
+    free: u32,
+    numbers: &mut [u32; 32],
+    leads: &mut [u32; 32],
+    sets: &mut [u64; 512],
+    slot: Slot,
+    job: JobNumber,
+) -> Moved
+    requires { ⌜ slot .0 < 32 ⌝ }
+    ensures { λ r. ⌜ (numbered (r .answer) ≡ record { code = 0; job = job .0 })
+        × (lent (r .next) (r .free) (now (numbers .exit)) (now (leads .exit)) (now (sets .exit)) ≡ ended-at (lent next free (now (numbers .entry)) (now (leads .entry)) (now (sets .entry))) (slot .0)) ⌝ }
+{
+    let from = leading(free, leads, slot);
+    fold_sets(sets, from, slot);
+    fold_leads(free, leads, from, slot);
+    leave(next, free, numbers, leads, sets, slot, job)
+}
+
 fn end_job(
     next: u64,
     free: u32,
@@ -489,11 +551,7 @@ fn end_job(
     if 32 <= at {
         return refused(next, free, Answer::NotOpen);
     }
-    let slot = Slot(at);
-    let from = leading(free, leads, slot);
-    fold_sets(sets, from, slot);
-    fold_leads(free, leads, from, slot);
-    leave(next, free, numbers, leads, sets, slot, job)
+    end_slot(next, free, numbers, leads, sets, Slot(at), job)
 }
 
 fn abandon_job(
@@ -588,4 +646,89 @@ pub fn step_in_place(
         6 => publish_job(next, free, numbers, leads, sets, job, cell),
         _ => refused(next, free, Answer::Malformed),
     }
+}
+
+// ---- the second profile
+
+// A read that is tested for its cell and its job alone.
+fn read_job(
+    next: u64,
+    free: u32,
+    numbers: &[u32; 32],
+    leads: &mut [u32; 32],
+    sets: &mut [u64; 512],
+    job: JobNumber,
+    named: u32,
+) -> Moved
+    ensures { λ r. ⌜ Lates (lent next free (now (numbers .entry)) (now (leads .entry)) (now (sets .entry))) (asks (reading (job .0) named)) r (now (numbers .entry)) (now (leads .exit)) (now (sets .exit)) ⌝ }
+{
+    if 256 <= named {
+        return refused(next, free, Answer::NoCell);
+    }
+    let at = slot_for(free, numbers, job);
+    if 32 <= at {
+        return refused(next, free, Answer::NotOpen);
+    }
+    let slot = Slot(at);
+    let real = Cell((named % 256) as u8);
+    let met = touching(free, sets, slot, false, real);
+    lead_to(leads, met, slot);
+    mark_own(sets, slot, false, real);
+    Moved {
+        next: next,
+        free: free,
+        answer: Answer::Granted(job),
+    }
+}
+
+// One request of the second profile in place: an open, a read or an abandon. A refusal leaves every array as it was.
+pub fn late_in_place(
+    next: u64,
+    free: u32,
+    numbers: &mut [u32; 32],
+    leads: &mut [u32; 32],
+    sets: &mut [u64; 512],
+    asked: [u8; 8],
+) -> Moved
+    ensures { λ r. ⌜ Lates (lent next free (now (numbers .entry)) (now (leads .entry)) (now (sets .entry))) (asks (request-of asked)) r (now (numbers .exit)) (now (leads .exit)) (now (sets .exit)) ⌝ }
+{
+    if asked[1] != 0 {
+        return refused(next, free, Answer::Malformed);
+    }
+    let kind = asked[0];
+    let cell = cell_in(asked);
+    let asker = job_in(asked);
+    match kind {
+        1 => open_job(next, free, numbers, leads, sets),
+        2 => read_job(next, free, numbers, leads, sets, asker, cell),
+        5 => abandon_job(next, free, numbers, leads, sets, asker),
+        _ => refused(next, free, Answer::Malformed),
+    }
+}
+
+// The publish of the second profile in place: the writes of a cell set and the end. Who would come to lead to the slot is gathered before anything is changed: where the slot itself
+// is among them, or leads to itself already, every array stays as it was.
+pub fn publish_in_place(
+    next: u64,
+    free: u32,
+    numbers: &mut [u32; 32],
+    leads: &mut [u32; 32],
+    sets: &mut [u64; 512],
+    job: JobNumber,
+    cells: CellSet,
+) -> Moved
+    ensures { λ r. ⌜ Lates (lent next free (now (numbers .entry)) (now (leads .entry)) (now (sets .entry))) (publishes (job .0) (cells .words)) r (now (numbers .exit)) (now (leads .exit)) (now (sets .exit)) ⌝ }
+{
+    let at = slot_for(free, numbers, job);
+    if 32 <= at {
+        return refused(next, free, Answer::NotOpen);
+    }
+    let slot = Slot(at);
+    let meeting = meeting_some(free, sets, slot, cells);
+    if (leads[at as usize] | meeting) & (1u32 << at) != 0 {
+        return refused(next, free, Answer::Circle);
+    }
+    lead_to(leads, meeting, slot);
+    join_own(sets, slot, cells);
+    end_slot(next, free, numbers, leads, sets, slot, job)
 }

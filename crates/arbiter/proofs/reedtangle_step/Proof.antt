@@ -5,10 +5,7 @@ use Rattle.arbiter.proofs.reedtangle_step.Statement.{statement}
 use Rattle.arbiter.proofs.reedtangle_step.Tie as tie
 
 returns : tie.Need-returns
-returns c = packs (c .before .before .before .step-in-place .ensures) (c .before .before .code .ensures) (c .before .job .ensures)
+returns c = packs (c .before .step-in-place .ensures) (c .in-one .ensures)
 
 pub reedtangle-step-spec : {M : Type 1} → statement M
-reedtangle-step-spec =
-    tie.close
-    (tie.spec
-    (λ c κs. search needs) (λ c κs. search needs) (λ c. search needs) (λ c. search needs) (λ c κs. search needs) (λ c. search needs) (λ c. search needs) returns)
+reedtangle-step-spec = tie.close (tie.spec (λ c κs. search needs) (λ c κs. search needs) returns)

@@ -1,0 +1,286 @@
+-- The writes of a publish, all at once: what the code does with the whole set of cells is what writing them one after the other does.
+--
+-- First a set against the words of a row: it overlaps them exactly when some of its cells is there (`overlaps-some`), and so some cell of it touches the row (`meets-itself`,
+-- `meets-other`). Then what the writes leave, place by place: who leads to the slot (`down-leads`), and the slot's own writes (`down-sets`), which gain the set's words
+-- (`joined-law`). Last, states that are the same place by place end alike (`ended-same`).
+-- Assumes nothing.
+use mathlib.Core.Path.{_≡_, refl, sym, ap, ap₂, _∙_, subst, subst₂}
+use mathlib.Core.Logic.{⊎-elim}
+use mathlib.Core.Bool.{Bool, true, false, not, _&&_, _||_, cond, and-false, or-false, or-comm, or-assoc}
+use mathlib.Core.List.{List, [], _∷_, List·Memᴰ·head, List·Memᴰ·tail}
+use Prim.Native.Nat.{ℕ, zero, suc, _+_, _-_, _*_, _/_, _%_, _^_, _≤_, _<_}
+use native.Mathlib.Nat.{pow-suc, lt-of-lt-of-le}
+use native.Mathlib.Omega.{arith}
+use lib.Bits.{bitOr, bitAnd}
+use lib.Dec.{T, leb, eqb}
+use lib.ListN.{length, getD}
+use lib.Pow.{pow-mono}
+use Rattle.graph.specs.Decide.{own-test, eq-test, le-test, lt-test, and-test, by-test, same-test, test-true, test-false, false-is, answer, some-of, some-test, some-same}
+use Rattle.graph.specs.Lists.{_∈_, here, later, only-keeps, only-from}
+use Rattle.marks.specs.Marks.{bit, mask-of, upto, without}
+use Rattle.marks.specs.MarkLaws.{getD-tab, tab-same, upto-has, upto-from, bit-or, bit-pow, bit-same, bit-above, shl-one, test-mark}
+use Rattle.marks.specs.Words.{marked, union, overlap}
+use Rattle.marks.specs.WordLaws.{Fit, overlap-test, marked-union, marked-at}
+use Rattle.history.specs.Events.{Kind, read, write}
+use Rattle.held.specs.Held.{Held, own-at, past-at, cell-at, word-at, number-at, leads-at, open-at, meets, touched, stepped-at, left-at, ended-at}
+use Rattle.late.specs.Late.{named}
+use Rattle.late.specs.LateHeld.{put-down, leads-back}
+use Rattle.slots.specs.Lent.{lent, sets-only}
+use Rattle.slots.specs.Rows.{meets-some, gained-row, gained, joined-word, joined-own}
+use Rattle.slots.proofs.SetLaws.{Part, part-at}
+use Rattle.slots.proofs.ClashLaws.{meets-is}
+use Rattle.slots.proofs.RequestLaws.{lent-same}
+
+-- ---- a set of cells
+
+-- four words of 64 marks
+pub record Cells (ws : List ℕ) : Type 0 where
+  pub four : length ws ≡ 4
+  pub fits : (i : ℕ) → getD ws i 0 < 2 ^ 64
+
+fit-of : {n : ℕ} (ws : List ℕ) → ((i : ℕ) → getD ws i 0 < n) → (w : ℕ) → w ∈ ws → w < n
+fit-of {n} (x ∷ ws) f w (List·Memᴰ·head e) = subst (λ (v : ℕ). v < n) (sym e) (f zero)
+fit-of {n} (x ∷ ws) f w (List·Memᴰ·tail m) = fit-of ws (λ i. f (suc i)) w m
+
+-- its cells are below 256, and are those that are marked
+named-from : (ws : List ℕ) {c : ℕ} → c ∈ named ws → (c < 256) × T (marked 64 ws c)
+unfolding named
+named-from ws m = let r = only-from (marked 64 ws) (upto 256) m in (upto-from 256 (r .0), r .1)
+
+named-has : (ws : List ℕ) {c : ℕ} → c < 256 → T (marked 64 ws c) → c ∈ named ws
+unfolding named
+named-has ws q t = only-keeps (marked 64 ws) (upto-has q) t
+
+pub named-small : (ws : List ℕ) (c : ℕ) → c ∈ named ws → c < 256
+named-small ws c m = named-from ws m .0
+
+-- words overlap the set exactly when some cell of it has a mark there
+overlaps-some : {us ws : List ℕ} → Cells us → Cells ws → (f : ℕ → Bool) → ((c : ℕ) → c < 256 → marked 64 us c ≡ f c) → overlap us ws ≡ some-of f (named ws)
+overlaps-some {us} {ws} u v f e =
+    let eu = u .four in
+    same-test (overlap-test 64 us ws (omega arith) (fit-of us (u .fits)) (fit-of ws (v .fits)) (u .four ∙ sym (v .four))) (some-test (λ c. own-test (f c)) (named ws))
+    (λ r. let q : r .0 < 256 = (let p = r .1 in omega arith) in (r .0, named-has ws q (r .3), subst T (e (r .0) q) (r .2)))
+    (λ r. let q = named-from ws (r .1) in (r .0, omega (arith, q .0), subst T (sym (e (r .0) (q .0))) (r .2), q .1))
+
+-- ---- a row
+
+module _ (l : List ℕ) (i : ℕ) where
+  cell-mark : {ws : List ℕ} {at c : ℕ} (o : ℕ) → at ≡ i * 16 + o → Part l at ws → c < 256 → marked 64 ws c ≡ cell-at (sets-only l) i o c
+  unfolding marked cell-at word-at
+  cell-mark {at = at} {c = c} o e t q =
+      ap (λ (x : ℕ). bit x (c % 64)) (part-at (c / 64) t (omega arith) ∙ ap (λ (k : ℕ). getD l k 0) (omega (arith, e)))
+
+  pair-mark : {rs ws us : List ℕ} {at at′ c : ℕ} (o : ℕ) → at ≡ i * 16 + o → at′ ≡ i * 16 + (o + 4) → Part l at rs → Part l at′ ws → us ≡ union rs ws → c < 256
+      → marked 64 us c ≡ cell-at (sets-only l) i o c || cell-at (sets-only l) i (o + 4) c
+  pair-mark {rs} {ws} {c = c} o e e′ t t′ eu q =
+      ap (λ (x : List ℕ). marked 64 x c) eu ∙ marked-union 64 rs ws c (t .four ∙ sym (t′ .four)) ∙ ap₂ _||_ (cell-mark o e t q) (cell-mark (o + 4) e′ t′ q)
+
+  module _ {rs ws past cells : List ℕ} (t : Part l (i * 16 + 8) rs) (t′ : Part l (i * 16 + 12) ws) (ep : past ≡ union rs ws) (v : Cells cells) (s : ℕ) where
+    past-mark : {c : ℕ} → c < 256 → marked 64 past c ≡ meets (past-at (sets-only l) i) write c
+    past-mark {c} q = pair-mark 8 refl refl t t′ ep q ∙ sym (meets-is (past-at (sets-only l) i) true c)
+
+    -- the slot itself: its past alone counts
+    pub meets-itself : {r : Bool} → Cells past → i ≡ s → r ≡ overlap past cells → r ≡ meets-some l s cells i
+    unfolding touched
+    meets-itself p e er =
+        er ∙ overlaps-some p v (λ c. touched (sets-only l) write s c i)
+        (λ c q. past-mark q
+        ∙ ap (λ (b : Bool). (not b && meets (own-at (sets-only l) i) write c) || meets (past-at (sets-only l) i) write c) (sym (test-true (eq-test i s) e)))
+
+    -- another slot: its own and its past
+    pub meets-other : {rs₁ ws₁ own all : List ℕ} {r : Bool} → Part l (i * 16) rs₁ → Part l (i * 16 + 4) ws₁ → own ≡ union rs₁ ws₁ → length own ≡ 4 → Cells past
+        → all ≡ union past own → Cells all → (i ≡ s → ⊥) → r ≡ overlap all cells → r ≡ meets-some l s cells i
+    unfolding touched
+    meets-other {own = own} u u′ eo lo p ea a ne er =
+        er ∙ overlaps-some a v (λ c. touched (sets-only l) write s c i)
+        (λ c q. ap (λ (x : List ℕ). marked 64 x c) ea ∙ marked-union 64 past own c (p .four ∙ sym lo)
+        ∙ ap₂ _||_ (past-mark q) (pair-mark 0 (omega arith) refl u u′ eo q ∙ sym (meets-is (own-at (sets-only l) i) true c))
+        ∙ or-comm (meets (past-at (sets-only l) i) write c) (meets (own-at (sets-only l) i) write c)
+        ∙ ap (λ (b : Bool). (not b && meets (own-at (sets-only l) i) write c) || meets (past-at (sets-only l) i) write c) (sym (test-false (eq-test i s) ne)))
+
+-- ---- the writes, one after the other
+
+-- a number is known by its marks, however wide it is
+below-power : (n : ℕ) → n < 2 ^ n
+below-power zero = omega arith
+below-power (suc n) = let p = below-power n in subst (λ (x : ℕ). suc n < x) (sym (pow-suc 2 n)) (omega arith)
+
+known-by-marks : {a b : ℕ} → ((k : ℕ) → bit a k ≡ bit b k) → a ≡ b
+known-by-marks {a} {b} e =
+    bit-same (a + b) a b (lt-of-lt-of-le (below-power a) (pow-mono (omega arith))) (lt-of-lt-of-le (below-power b) (pow-mono (omega arith))) (λ k q. e k)
+
+or-again : (x g : ℕ) → bitOr (bitOr x g) g ≡ bitOr x g
+or-again x g = known-by-marks (λ k. bit-or (bitOr x g) g k ∙ ap (λ (b : Bool). b || bit g k) (bit-or x g k) ∙ go (bit x k) (bit g k) ∙ sym (bit-or x g k))
+  where
+    go : (a b : Bool) → (a || b) || b ≡ a || b
+    go true b = refl
+    go false true = refl
+    go false false = refl
+
+-- where the word of a written cell stands
+abbrev place : ℕ → ℕ → ℕ
+place s c = s * 16 + (4 + c / 64)
+
+module _ (h : Held) (s : ℕ) (hs : s < 32) (c : ℕ) (hc : c < 256) where
+  abbrev then : Held
+  then = stepped-at h write s c
+
+  word-then : (w : ℕ) → w < 512 → getD (then .sets) w 0 ≡ cond (eqb w (place s c)) (bitOr (getD (h .sets) w 0) (2 ^ (c % 64))) (getD (h .sets) w 0)
+  unfolding stepped-at
+  word-then w q = getD-tab 512 (λ w. cond (eqb w (place s c)) (bitOr (getD (h .sets) w 0) (2 ^ (c % 64))) (getD (h .sets) w 0)) w 0 q
+
+  word-kept : (w : ℕ) → w < 512 → (w ≡ place s c → ⊥) → getD (then .sets) w 0 ≡ getD (h .sets) w 0
+  word-kept w q n = word-then w q ∙ ap (λ (b : Bool). cond b (bitOr (getD (h .sets) w 0) (2 ^ (c % 64))) (getD (h .sets) w 0)) (test-false (eq-test w (place s c)) n)
+
+  leads-then : (i : ℕ) → i < 32 → leads-at then i ≡ cond (open-at h i && touched h write s c i) (bitOr (leads-at h i) (2 ^ s)) (leads-at h i)
+  unfolding stepped-at leads-at
+  leads-then i q = getD-tab 32 (λ i. cond (open-at h i && touched h write s c i) (bitOr (getD (h .leads) i 0) (2 ^ s)) (getD (h .leads) i 0)) i 0 q
+
+  cell-kept : (i o x : ℕ) → x < 256 → i < 32 → o ≤ 12 → (i * 16 + (o + x / 64) ≡ place s c → ⊥) → cell-at then i o x ≡ cell-at h i o x
+  unfolding cell-at word-at
+  cell-kept i o x qx qi qo n = ap (λ (w : ℕ). bit w (x % 64)) (word-kept (i * 16 + (o + x / 64)) (omega arith) n)
+
+  meets-kept : (f g : Kind → ℕ → Bool) (x : ℕ) → f read x ≡ g read x → f write x ≡ g write x → meets f write x ≡ meets g write x
+  meets-kept f g x a b = meets-is f true x ∙ ap₂ _||_ a b ∙ sym (meets-is g true x)
+
+  -- whom a write touches, the writes before it do not change
+  touched-then : (x i : ℕ) → x < 256 → i < 32 → touched then write s x i ≡ touched h write s x i
+  unfolding touched
+  touched-then x i qx qi =
+      ap₂ _||_
+      (by-test (λ (b : Bool). not b && meets (own-at then i) write x ≡ not b && meets (own-at h i) write x) (eq-test i s) (λ e. refl)
+      (λ n. meets-kept (own-at then i) (own-at h i) x (cell-kept i 0 x qx qi (omega arith) (λ e. omega arith)) (cell-kept i 4 x qx qi (omega arith) (λ e. n (omega arith)))))
+      (meets-kept (past-at then i) (past-at h i) x (cell-kept i 8 x qx qi (omega arith) (λ e. omega arith)) (cell-kept i 12 x qx qi (omega arith) (λ e. omega arith)))
+
+abbrev Small : List ℕ → Type 0
+Small cs = (c : ℕ) → c ∈ cs → c < 256
+
+pub down-leads : (h : Held) (s : ℕ) → s < 32 → (cs : List ℕ) → Small cs → (i : ℕ) → i < 32
+    → leads-at (put-down h s cs) i ≡ cond (open-at h i && some-of (λ c. touched h write s c i) cs) (bitOr (leads-at h i) (2 ^ s)) (leads-at h i)
+unfolding stepped-at open-at
+down-leads h s hs [] small i q = ap (λ (b : Bool). cond b (bitOr (leads-at h i) (2 ^ s)) (leads-at h i)) (sym (and-false (open-at h i)))
+down-leads h s hs (c ∷ cs) small i q =
+    down-leads (stepped-at h write s c) s hs cs (λ x m. small x (later m)) i q
+    ∙ ap₂ (λ (b : Bool) (x : ℕ). cond (open-at h i && b) (bitOr x (2 ^ s)) x)
+    (some-same (λ x. touched (stepped-at h write s c) write s x i) (λ x. touched h write s x i) cs (λ x m. touched-then h s hs c (small c here) x i (small x (later m)) q))
+    (leads-then h s hs c (small c here) i q)
+    ∙ go (open-at h i) (touched h write s c i) (some-of (λ c. touched h write s c i) cs) (leads-at h i)
+  where
+    go : (o a b : Bool) (x : ℕ) → cond (o && b) (bitOr (cond (o && a) (bitOr x (2 ^ s)) x) (2 ^ s)) (cond (o && a) (bitOr x (2 ^ s)) x) ≡ cond (o && (a || b)) (bitOr x (2 ^ s)) x
+    go false a b x = refl
+    go true true true x = or-again x (2 ^ s)
+    go true true false x = refl
+    go true false b x = refl
+
+-- a word x at w, after them
+abbrev grown : ℕ → List ℕ → ℕ → ℕ → ℕ
+grown s [] w x = x
+grown s (c ∷ cs) w x = grown s cs w (cond (eqb w (place s c)) (bitOr x (2 ^ (c % 64))) x)
+
+down-sets : (h : Held) (s : ℕ) → s < 32 → (cs : List ℕ) → Small cs → (w : ℕ) → w < 512 → getD (put-down h s cs .sets) w 0 ≡ grown s cs w (getD (h .sets) w 0)
+down-sets h s hs [] small w q = refl
+down-sets h s hs (c ∷ cs) small w q =
+    down-sets (stepped-at h write s c) s hs cs (λ x m. small x (later m)) w q ∙ ap (grown s cs w) (word-then h s hs c (small c here) w q)
+
+abbrev at-mark : ℕ → ℕ → ℕ → ℕ → Bool
+at-mark s w k c = eqb w (place s c) && eqb k (c % 64)
+
+grown-mark : (s : ℕ) (cs : List ℕ) (w x k : ℕ) → bit (grown s cs w x) k ≡ bit x k || some-of (at-mark s w k) cs
+grown-mark s [] w x k = sym (or-false (bit x k))
+grown-mark s (c ∷ cs) w x k =
+    grown-mark s cs w (cond (eqb w (place s c)) (bitOr x (2 ^ (c % 64))) x) k
+    ∙ ap (λ (b : Bool). b || some-of (at-mark s w k) cs) (go (eqb w (place s c)))
+    ∙ or-assoc (bit x k) (at-mark s w k c) (some-of (at-mark s w k) cs)
+  where
+    go : (b : Bool) → bit (cond b (bitOr x (2 ^ (c % 64))) x) k ≡ bit x k || (b && eqb k (c % 64))
+    go true = bit-or x (2 ^ (c % 64)) k ∙ ap (λ (b : Bool). bit x k || b) (bit-pow (c % 64) k)
+    go false = sym (or-false (bit x k))
+
+-- of all cells of the set: those words gain that stand in the slot's own writes, each the set's word
+pub joined-law : {ws : List ℕ} (sets : List ℕ) (s w : ℕ) → Cells ws → grown s (named ws) w (getD sets w 0) ≡ joined-word sets s ws w
+unfolding marked
+joined-law {ws} sets s w v =
+    known-by-marks (λ k.
+    grown-mark s (named ws) w x k ∙ ap (λ (b : Bool). bit x k || b) (marks k) ∙ sym (go (leb (s * 16 + 4) w && leb w (s * 16 + 4 + 3)) k))
+  where
+    x : ℕ
+    x = getD sets w 0
+
+    y : ℕ
+    y = getD ws (w - (s * 16 + 4)) 0
+
+    inside : (k : ℕ) → T (bit y k) → k < 64
+    inside k t = ⊎-elim (λ q. q) (λ n. absurd (false-is (bit-above 64 y k (v .fits (w - (s * 16 + 4))) (omega arith)) t)) (answer (lt-test k 64))
+
+    marks : (k : ℕ) → some-of (at-mark s w k) (named ws) ≡ (leb (s * 16 + 4) w && leb w (s * 16 + 4 + 3)) && bit y k
+    marks k =
+        same-test (some-test (λ c. and-test (eq-test w (place s c)) (eq-test k (c % 64))) (named ws))
+        (and-test (and-test (le-test (s * 16 + 4) w) (le-test w (s * 16 + 4 + 3))) (own-test (bit y k)))
+        (λ r.
+        let f = named-from ws (r .1) in
+        let q = f .0 in
+        let e = r .2 .0 in
+        ((omega arith, omega arith), subst₂ (λ (i m : ℕ). T (bit (getD ws i 0) m)) (omega arith) (sym (r .2 .1)) (f .1)))
+        (λ r.
+        let q = inside k (r .1) in
+        let a = r .0 .0 in
+        let b = r .0 .1 in
+        let p = w - (s * 16 + 4) in
+        (p * 64 + k, named-has ws (omega arith) (subst T (sym (marked-at ws p q)) (r .1)), (omega arith, omega arith)))
+
+    go : (b : Bool) (k : ℕ) → bit (cond b (bitOr x y) x) k ≡ bit x k || (b && bit y k)
+    go true k = bit-or x y k
+    go false k = sym (or-false (bit x k))
+
+-- the rest stays
+down-next : (h : Held) (s : ℕ) (cs : List ℕ) → (put-down h s cs .next ≡ h .next) × (put-down h s cs .free ≡ h .free) × (put-down h s cs .numbers ≡ h .numbers)
+unfolding stepped-at
+down-next h s [] = (refl, refl, refl)
+down-next h s (c ∷ cs) = down-next (stepped-at h write s c) s cs
+
+-- ---- the end
+
+-- states that are the same place by place end alike
+ended-same : (next free : ℕ) (numbers leads leads′ sets sets′ : List ℕ) (s : ℕ) → s < 32
+    → ((i : ℕ) → i < 32 → getD leads i 0 ≡ getD leads′ i 0) → ((w : ℕ) → w < 512 → getD sets w 0 ≡ getD sets′ w 0)
+    → ended-at (lent next free numbers leads sets) s ≡ ended-at (lent next free numbers leads′ sets′) s
+unfolding ended-at left-at leads-at word-at open-at number-at
+ended-same next free numbers leads leads′ sets sets′ s hs el es =
+    lent-same refl refl refl
+    (tab-same 32 _ _ (λ i q. let a = el i q in let b = el s hs in
+    λ j. cond (eqb i s) 0 (without (cond (not (bit free i) && (not (eqb i s) && bit (a j) s)) (bitOr (a j) (bitAnd (b j) (mask-of 32 (λ k. not (bit free k))))) (a j)) s)))
+    (tab-same 512 _ _ (λ w q. let a = el (w / 16) (omega arith) in let b = es w q in let c = es (s * 16 + (w % 16 - 8)) (omega arith) in let d = es (s * 16 + w % 16) (omega arith) in
+    λ j. cond (eqb (w / 16) s) 0 (cond ((not (bit free (w / 16)) && (not (eqb (w / 16) s) && bit (a j) s)) && leb 8 (w % 16)) (bitOr (b j) (bitOr (c j) (d j))) (b j))))
+
+-- so the slot that has led and written as the code does ends as after its writes
+pub publish-ends : {ws leads sets : List ℕ} (touching : ℕ) (h : Held) (s : ℕ) → s < 32 → Cells ws
+    → ((i : ℕ) → i < 32 → bit touching i ≡ open-at h i && some-of (λ c. touched h write s c i) (named ws))
+    → leads ≡ gained (h .leads) (bit touching) (2 ^ s) → sets ≡ joined-own (h .sets) s ws
+    → ended-at (lent (h .next) (h .free) (h .numbers) leads sets) s ≡ ended-at (put-down h s (named ws)) s
+unfolding leads-at
+publish-ends {ws} {leads} {sets} touching h s hs v et el es =
+    let d = put-down h s (named ws) in
+    let n = down-next h s (named ws) in
+    ended-same (h .next) (h .free) (h .numbers) leads (d .leads) sets (d .sets) s hs
+    (λ i q. ap (λ (l : List ℕ). getD l i 0) el ∙ getD-tab 32 (gained-row (h .leads) (bit touching) (2 ^ s)) i 0 q
+    ∙ ap (λ (b : Bool). cond b (bitOr (getD (h .leads) i 0) (2 ^ s)) (getD (h .leads) i 0)) (et i q) ∙ sym (down-leads h s hs (named ws) (named-small ws) i q))
+    (λ w q. ap (λ (l : List ℕ). getD l w 0) es ∙ getD-tab 512 (joined-word (h .sets) s ws) w 0 q
+    ∙ sym (joined-law (h .sets) s w v) ∙ sym (down-sets h s hs (named ws) (named-small ws) w q))
+    ∙ ap (λ (x : Held). ended-at x s) (lent-same (sym (n .0)) (sym (n .1)) (sym (n .2)) refl refl)
+
+-- and it leads to itself exactly when the test says so
+pub back-law : (ws : List ℕ) (touching : ℕ) (h : Held) (s : ℕ) → s < 32
+    → ((i : ℕ) → i < 32 → bit touching i ≡ open-at h i && some-of (λ c. touched h write s c i) (named ws))
+    → leads-back h s (named ws) ≡ not (eqb (bitAnd (bitOr (getD (h .leads) s 0) touching) (1 * 2 ^ s % 4294967296)) 0)
+unfolding leads-back leads-at
+back-law ws touching h s hs et =
+    ap (λ (x : ℕ). bit x s) (down-leads h s hs (named ws) (named-small ws) s hs) ∙ go (open-at h s && some-of (λ c. touched h write s c s) (named ws))
+    ∙ ap (λ (b : Bool). bit x s || b) (sym (et s hs)) ∙ sym (bit-or x touching s) ∙ sym (test-mark (bitOr x touching) s)
+    ∙ ap (λ (m : ℕ). not (eqb (bitAnd (bitOr x touching) m) 0)) (sym (shl-one 32 hs))
+  where
+    x : ℕ
+    x = getD (h .leads) s 0
+
+    go : (b : Bool) → bit (cond b (bitOr x (2 ^ s)) x) s ≡ bit x s || b
+    go true = bit-or x (2 ^ s) s ∙ ap (λ (b : Bool). bit x s || b) (bit-pow s s ∙ test-true (eq-test s s) refl)
+    go false = sym (or-false (bit x s))
