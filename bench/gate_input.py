@@ -7,7 +7,7 @@
 
 The input is the ten requests that document 01 prints, then requests from a generator, and five bytes that are no whole record. The program reads 64 KiB at
 a time from a file, so the input is longer than that: the last requests are a second batch. One job is opened near the start and asks again at the end, about
-cells that were written by jobs of the first batch, which have ended since, one of them by a publish.
+cells that were written or added to by jobs of the first batch, which have ended since, one of them by a publish.
 
 The replies are not the arbiter's. They come from the class `Whole`, which keeps every granted request and decides a step by the precedences of the whole
 kept history. Every code comes up but 6: the program starts from number 1, and 6 wants 4,294,967,295 opens."""
@@ -16,7 +16,7 @@ import subprocess
 import sys
 import time
 
-OPEN, READ, WRITE, END, ABANDON, PUBLISH = 1, 2, 3, 4, 5, 6
+OPEN, READ, WRITE, END, ABANDON, PUBLISH, ADD = 1, 2, 3, 4, 5, 6, 7
 BATCH = 65536
 TOP = os.path.join(os.path.dirname(os.path.abspath(__file__)), "..", "crates", "trial")
 
@@ -30,13 +30,14 @@ class Whole:
 
     def __init__(self, first):
         self.next, self.opened, self.gone = first, [], set()
-        self.steps = []  # (job, cell, is a write), every granted step
+        self.steps = []  # (job, cell, kind), every granted step
+        self.spared = 0  # adds that were granted where a write would not be
         self.later = {}  # job: the jobs that it precedes by a conflict
         self.ended = {}  # job: how many jobs had been opened when it ended; it precedes those that were opened after
 
-    def precede(self, job, cell, write):
-        """The kept jobs with a step that this one would conflict with."""
-        return {j for j, c, w in self.steps if c == cell and j != job and (w or write)}
+    def precede(self, job, cell, kind):
+        """The kept jobs with a step that this one would conflict with: any but two reads, or two adds."""
+        return {j for j, c, k in self.steps if c == cell and j != job and not (k == kind != WRITE)}
 
     def circle(self, job, before):
         """Is one of the jobs `before` reached from the job along precedences?"""
@@ -56,7 +57,7 @@ class Whole:
 
     def ask(self, r):
         kind, cell, job = r[0], int.from_bytes(r[2:4], "little"), int.from_bytes(r[4:8], "little")
-        if not 1 <= kind <= 6 or r[1] != 0:
+        if not 1 <= kind <= 7 or r[1] != 0:
             return 1, 0
         if kind == PUBLISH:  # a write, and where that is granted an end
             said = self.ask(request(WRITE, 0, cell, job))
@@ -69,19 +70,20 @@ class Whole:
             self.next += 1
             self.opened.append(self.next - 1)
             return 0, self.next - 1
-        if kind in (READ, WRITE) and cell > 255:
+        if kind in (READ, WRITE, ADD) and cell > 255:
             return 2, 0
         if job not in self.opened or job in self.gone:
             return 3, 0
-        if kind in (READ, WRITE):
-            before = self.precede(job, cell, kind == WRITE)
+        if kind in (READ, WRITE, ADD):
+            before = self.precede(job, cell, kind)
             if self.circle(job, before):
                 return 7, 0
+            self.spared += kind == ADD and self.circle(job, self.precede(job, cell, WRITE))
             for j in before:
                 self.later.setdefault(j, set()).add(job)
-            self.steps.append((job, cell, kind == WRITE))
+            self.steps.append((job, cell, kind))
         if kind == ABANDON:
-            if any(j == job and w for j, _, w in self.steps):
+            if any(j == job and k != READ for j, _, k in self.steps):
                 return 4, 0
             self.steps = [s for s in self.steps if s[0] != job]
             self.later.pop(job, None)
@@ -119,10 +121,10 @@ def some(r, shape, live):
     if r.below(100) < bad:
         return [
             request(r.below(256), 0, r.below(300), job),
-            request(1 + r.below(6), 1 << r.below(8), r.below(300), job),
-            request((READ, WRITE, PUBLISH)[r.below(3)], 0, 256 + r.below(65280), job),
-            request(2 + r.below(5), 0, r.below(250), r.below(0x100000000)),
-            request(2 + r.below(5), 0, r.below(250), max(0, job - 1 - r.below(9))),
+            request(1 + r.below(7), 1 << r.below(8), r.below(300), job),
+            request((READ, WRITE, PUBLISH, ADD)[r.below(4)], 0, 256 + r.below(65280), job),
+            request(2 + r.below(6), 0, r.below(250), r.below(0x100000000)),
+            request(2 + r.below(6), 0, r.below(250), max(0, job - 1 - r.below(9))),
         ][r.below(5)]
     if not live or (len(live) < most and r.below(4) == 0):
         return request(OPEN, 0, r.below(65536), r.below(0x100000000))
@@ -130,7 +132,7 @@ def some(r, shape, live):
         if r.below(3) == 0:
             return request(PUBLISH, 0, r.below(cells), job)
         return request(ABANDON if r.below(100) < abandons else END, 0, r.below(65536), job)
-    return request(2 + r.below(2), 0, r.below(cells), job)
+    return request((READ, READ, WRITE, ADD)[r.below(4)], 0, r.below(cells), job)
 
 
 def make():
@@ -150,8 +152,8 @@ def make():
     # document 01's ten
     for kind, cell, job in [(OPEN, 0, 0), (OPEN, 0, 0), (READ, 5, 1), (READ, 5, 2), (WRITE, 5, 2), (END, 0, 2), (WRITE, 5, 1), (WRITE, 256, 1), (ABANDON, 0, 1), (READ, 5, 1)]:
         ask(request(kind, 0, cell, job))
-    # one job reads cells 250 and 253 and stays; another writes cells 250 and 251 and ends; a third writes cell 254 and publishes cell 253. The generator takes no cell from
-    # 250 on but in bad requests
+    # one job reads cells 250 and 253 and stays; another writes cells 250 and 251 and ends; a third writes cell 254, adds to cell 255 and publishes cell 253. The generator takes no
+    # cell from 250 on but in bad requests
     stays = ask(request(OPEN, 0, 0, 0))[1]
     ask(request(READ, 0, 250, stays))
     ask(request(READ, 0, 253, stays))
@@ -159,23 +161,28 @@ def make():
     for kind, cell in [(WRITE, 250), (WRITE, 251), (END, 0)]:
         ask(request(kind, 0, cell, leaves))
     assert ask(request(WRITE, 0, 254, publishes)) == (0, publishes)
+    assert ask(request(ADD, 0, 255, publishes)) == (0, publishes)
     assert ask(request(PUBLISH, 0, 253, publishes)) == (0, publishes)
     assert ask(request(PUBLISH, 0, 253, publishes))[0] == 3
     live.remove(stays)
     r = Random(20240301)
     while len(data) < BATCH + 8 * 28:
         ask(some(r, SHAPES[len(data) // 2048 % len(SHAPES)], live))
-    # in the second batch: what the other jobs wrote closes a circle, by a publish too, and a cell of nobody else does not
+    # in the second batch: what the other jobs wrote closes a circle, by a publish too, and a cell of nobody else does not; what one added to may be added to, and not read
     live.append(stays)
     assert ask(request(READ, 0, 251, stays))[0] == 7
     assert ask(request(READ, 0, 254, stays))[0] == 7
     assert ask(request(PUBLISH, 0, 253, stays))[0] == 7
+    assert ask(request(ADD, 0, 251, stays))[0] == 7
+    assert ask(request(READ, 0, 255, stays))[0] == 7
+    assert ask(request(ADD, 0, 255, stays))[0] == 0
+    assert ask(request(ABANDON, 0, 0, stays))[0] == 4
     assert ask(request(WRITE, 0, 252, stays))[0] == 0
     assert ask(request(ABANDON, 0, 0, stays))[0] == 4
     assert ask(request(PUBLISH, 0, 252, stays))[0] == 0
     tail = bytes([OPEN, 0, 0, 0, 0])
     out.append("tail %d" % len(tail))
-    return bytes(data) + tail, ("\n".join(out) + "\n").encode()
+    return bytes(data) + tail, ("\n".join(out) + "\n").encode(), whole.spared
 
 
 def pipe(program, data, out):
@@ -202,11 +209,13 @@ def pipe(program, data, out):
 
 def main():
     words = sys.argv[1:] or ["check"]
-    data, out = make()
+    data, out, spared = make()
     codes = [line.split()[1] for line in out.decode().splitlines()[1:-1]]
     print("%d bytes; of each code %s" % (len(data), ", ".join("%s %d" % (c, codes.count(c)) for c in sorted(set(codes)))))
-    publishes = [c for i, c in enumerate(codes) if data[8 * i] == PUBLISH]
-    print("%d publishes; of each code %s" % (len(publishes), ", ".join("%s %d" % (c, publishes.count(c)) for c in sorted(set(publishes)))))
+    for kind, name in ((PUBLISH, "publishes"), (ADD, "adds")):
+        those = [c for i, c in enumerate(codes) if data[8 * i] == kind]
+        print("%d %s; of each code %s" % (len(those), name, ", ".join("%s %d" % (c, those.count(c)) for c in sorted(set(those)))))
+    print("%d adds granted where a write would not be" % spared)
     if words[0] == "make":
         for name, content in (("stdin", data), ("stdout", out)):
             with open(os.path.join(TOP, name), "wb") as f:

@@ -1,5 +1,5 @@
 #!/usr/bin/env python3
-"""Import and export of logs in the report's notation (document 02, order 5), worked out a second time, with nothing shared.
+"""Import and export of logs in the report's notation (document 02, orders 5 and 8), worked out a second time, with nothing shared.
 
     bench/notation.py check         is crates/noted/stdout what this file answers to crates/noted/stdin?
     bench/notation.py pipe N SEED   N random cases through target/bin/noted, compared line by line with what this file answers
@@ -70,7 +70,7 @@ def fault(records):
         return 11, 0
     opened, gone, wrote = [], set(), set()
     for place, (kind, byte1, cell, job) in enumerate(records):
-        if kind not in (1, 2, 3, 4, 5) or byte1 != 0 or cell > 255 or (kind not in (2, 3) and cell != 0):
+        if kind not in (1, 2, 3, 4, 5, 7) or byte1 != 0 or cell > 255 or (kind not in (2, 3, 7) and cell != 0):
             return 12, place
         if kind == 1:
             if opened and job <= opened[-1]:
@@ -80,7 +80,7 @@ def fault(records):
             opened.append(job)
         elif job in gone or job not in opened or (kind == 5 and job in wrote):
             return 13, place
-        if kind == 3:
+        if kind in (3, 7):
             wrote.add(job)
         if kind in (4, 5):
             gone.add(job)
@@ -111,7 +111,8 @@ def export_log(log, room):
     if len(log) % 8 or len(log) > 32768:
         return 11, 0, b""
     records = unpack(log)
-    bad = fault(records)
+    # an add has no symbol
+    bad = fault(records) or next(((27, place) for place, record in enumerate(records) if record[0] == 7), None)
     t = text_of(records) if not bad else b""
     if bad or room < len(t):
         return (bad or (24, 0)) + (b"",)
@@ -173,8 +174,9 @@ def check():
 
 # ---- random cases
 
-def some_log(r, count, abandons, bad):
-    """A log of so many records. Of a thousand records so many have another number in one place; the rest follow the rules, but for the count of opens."""
+def some_log(r, count, abandons, bad, adds):
+    """A log of so many records. Of a thousand records so many have another number in one place; the rest follow the rules, but for the count of opens. Of a thousand steps so
+    many are adds."""
     records, live, wrote = [], [], set()
     opens = r.choice([1, 2, 7])
     number = r.choice([0, 1, 7, 4294967200, r.randrange(4294967296)])
@@ -193,20 +195,20 @@ def some_log(r, count, abandons, bad):
             record = (kind, 0, 0, job)
             live.remove(job)
         else:
-            kind = 2 + r.randrange(2)
-            if kind == 3:
+            kind = 7 if r.randrange(1000) < adds else 2 + r.randrange(2)
+            if kind != 2:
                 wrote.add(job)
             record = (kind, 0, r.randrange(cells), job)
         if r.randrange(1000) < bad:
             k, b, c, j = record
             another = r.choice([256, 300, 65535])
-            record = r.choice([(r.randrange(7), b, c, j), (k, r.randrange(1, 256), c, j), (k, b, another, j), (k, b, another, j), (k, b, c, r.choice([0, 4294967295, max(0, j - 1)]))])
+            record = r.choice([(r.randrange(9), b, c, j), (k, r.randrange(1, 256), c, j), (k, b, another, j), (k, b, another, j), (k, b, c, r.choice([0, 4294967295, max(0, j - 1)]))])
         records.append(record)
     return records
 
 
 def some_text(r, count):
-    records = some_log(r, count, False, r.choice([0, 0, 2, 40]))
+    records = some_log(r, count, False, r.choice([0, 0, 2, 40]), 0)
     words = ["%s%d" % (" BRWE"[1 + (kind + 3) % 4], job) + ("[%d]" % cell if 1 + (kind + 3) % 4 in (2, 3) else "") for kind, _, cell, job in records]
     return " ".join(words).encode()
 
@@ -234,7 +236,7 @@ def some_line(r):
     if shape < 7:
         line = some_text(r, count)
     else:
-        line = b"=" + b" ".join(pack([record]).hex().encode() for record in some_log(r, count, True, r.choice([0, 0, 2, 40])))
+        line = b"=" + b" ".join(pack([record]).hex().encode() for record in some_log(r, count, True, r.choice([0, 0, 2, 40]), r.choice([0, 0, 0, 3, 60])))
     turn = r.randrange(5)
     if turn == 0:
         line = hurt(r, line)

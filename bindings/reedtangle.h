@@ -5,8 +5,8 @@
  *
  *     cc -std=c11 -I bindings host.c target/staticlib/libarbiter.a target/staticlib/liborders.a -o host
  *
- * Two steps (reads and writes) conflict when their jobs differ, their cell is the same, and they are not both reads. A job is kept unless it
- * was abandoned. An order of the kept jobs would do when any two conflicting steps come in it as they came in the log, and each job comes in it
+ * Two steps (reads, writes and adds) conflict when their jobs differ, their cell is the same, and they are neither both reads nor both adds. A job is
+ * kept unless it was abandoned. An order of the kept jobs would do when any two conflicting steps come in it as they came in the log, and each job comes in it
  * before all that were opened after its end. So the words are used below; there may be an order with the same reads and cells in the end that
  * turns such a pair round, and it is not looked for.
  *
@@ -55,7 +55,7 @@ enum {
  *
  * Both are eight bytes:
  *
- *     byte   0      the kind, 1 to 6 in a request, 1 to 5 in a record
+ *     byte   0      the kind, 1 to 7 in a request, 1 to 5 or 7 in a record
  *     byte   1      0
  *     bytes  2, 3   the cell, low byte first
  *     bytes  4..7   the job, low byte first
@@ -67,9 +67,10 @@ enum {
  *     4  end          ignored             the asking job     0                  the asking job
  *     5  abandon      ignored             the asking job     0                  the asking job
  *     6  publish      the cell            the asking job     none: two records, a write and an end
+ *     7  add          the cell            the asking job     the cell           the asking job
  *
- * A read of cell 5 by job 1 is 02 00 05 00 01 00 00 00. A publish is a write of its cell and the end of its job in one request. A log is the records
- * of what was granted, in the sequence of the grants, and nothing else: reedtangle_put_records below makes those of a granted request.
+ * A read of cell 5 by job 1 is 02 00 05 00 01 00 00 00. A publish is a write of its cell and the end of its job in one request. An add raises its cell as a
+ * counter: adds of several jobs may change places. A log is the records of what was granted, in the sequence of the grants, and nothing else: reedtangle_put_records below makes those of a granted request.
  */
 
 enum {
@@ -78,7 +79,8 @@ enum {
     REEDTANGLE_WRITE = 3,
     REEDTANGLE_END = 4,
     REEDTANGLE_ABANDON = 5,
-    REEDTANGLE_PUBLISH = 6
+    REEDTANGLE_PUBLISH = 6,
+    REEDTANGLE_ADD = 7
 };
 
 /* ---- codes */
@@ -87,21 +89,21 @@ enum {
     /* all: granted, accepted, listed, done */
     REEDTANGLE_GRANTED = 0,
 
-    /* reedtangle_step, and each answer of reedtangle_replay. Tested in this sequence: open 1, 6, 5; read, write and publish
+    /* reedtangle_step, and each answer of reedtangle_replay. Tested in this sequence: open 1, 6, 5; read, write, add and publish
        1, 2, 3, 7; end 1, 3; abandon 1, 3, 4. The first that holds is given. */
-    REEDTANGLE_MALFORMED = 1,       /* the kind is none of 1 to 6, or byte 1 is not 0 */
-    REEDTANGLE_NO_CELL = 2,         /* the cell of a read, write or publish is 256 or more */
+    REEDTANGLE_MALFORMED = 1,       /* the kind is none of 1 to 7, or byte 1 is not 0 */
+    REEDTANGLE_NO_CELL = 2,         /* the cell of a read, write, add or publish is 256 or more */
     REEDTANGLE_NOT_OPEN = 3,        /* the asking job is not open */
-    REEDTANGLE_HAS_WRITTEN = 4,     /* an abandon of a job that has written */
+    REEDTANGLE_HAS_WRITTEN = 4,     /* an abandon of a job that has written or added */
     REEDTANGLE_FULL = 5,            /* an open while 32 jobs are open */
     REEDTANGLE_SPENT = 6,           /* an open after job number 4,294,967,295 was issued */
-    REEDTANGLE_CIRCLE = 7,          /* with this read, or this write, a publish's too, no order of the jobs would do */
+    REEDTANGLE_CIRCLE = 7,          /* with this read, add, or write, a publish's too, no order of the jobs would do */
 
     /* checker and lister: the log is at fault. The place is that of the first faulty record, counted from 0; for 11 it is 0. */
     REEDTANGLE_LENGTH = 11,         /* the length is no multiple of 8, or over 32,768 bytes */
     REEDTANGLE_FORM = 12,           /* a record with a wrong kind, byte 1 or cell */
     REEDTANGLE_TURN = 13,           /* an open whose number is not above those before it; a job that is not open there; an abandon of a
-                                       job that has written */
+                                       job that has written or added */
     REEDTANGLE_TOO_MANY = 14,       /* an open with 512 opens before it */
 
     /* checker */
@@ -130,7 +132,7 @@ void reedtangle_fresh(uint32_t first, uint64_t *next, uint32_t *free, uint32_t *
  * One request, eight bytes, on a state that the host keeps. Comes back: code times 2^32 plus job. The code is 0 to 7. The job is the number
  * issued for a granted open, the asking job for any other grant, and 0 for a refusal; since 0 is a job number too, go by the code.
  *
- * From a fresh state through any requests, each answer is the one that the whole history gives: a read or write of an open job on a real
+ * From a fresh state through any requests, each answer is the one that the whole history gives: a read, write or add of an open job on a real
  * cell gets 7 exactly when no order of the jobs would do with it. A publish is granted exactly when its write is, and leaves the state that the write
  * and the end of the job leave; where it is refused the job is open as before. On a refusal no bit of the state changes. For a state with any other
  * content the call still ends, with one answer and one next state; then nothing is said of a history.
@@ -159,7 +161,7 @@ uint32_t reedtangle_replay_by_value(uint32_t first, const uint8_t *requests, siz
  *     11 to 16   refused; the place is as the codes above say
  *
  * 0 comes exactly when the log has no fault, the order has each kept job once and nothing else, and it would do. Running the kept jobs one at
- * a time in that order then shows each of their reads the same value, and leaves each cell the same, as the log did. Nothing is written.
+ * a time in that order then shows each of their reads the same last write and the same adds since, in any order, and leaves each cell so, as the log did. Nothing is written.
  */
 uint64_t reedtangle_check_order(const uint8_t *log, size_t length, const uint32_t *order, size_t entries);
 
@@ -178,7 +180,8 @@ uint64_t reedtangle_list_order(const uint8_t *log, size_t length, uint32_t *out,
  *
  * In this profile reads are granted as they come, and a job writes and ends by one publish, which is tested then. The state has the same form and is made by
  * reedtangle_fresh, and it belongs to the profile that it was started in: it holds other facts, so a state that was asked by reedtangle_step is not for these two, nor the other
- * way round. A call on such a state still ends, with one answer, which is that of no history. What is said above of all functions holds of these.
+ * way round. A call on such a state still ends, with one answer, which is that of no history. What is said above of all functions holds of these; they
+ * take less than 6,000 bytes of stack.
  *
  * A cell set is four words of 64 marks: cell c is bit c % 64 of word c / 64.
  */
@@ -223,10 +226,10 @@ uint64_t reedtangle_read_blocks(const uint8_t *blocks, size_t length, uint8_t *o
 
 /* ---- batches: one function more, in an archive of its own, target/staticlib/libbatch.a (`rt staticlib batch`)
  *
- * Up to 64 reads and writes in one call, on a state that the host keeps, `length` bytes of requests. Comes back: code times 2^32 plus place.
+ * Up to 64 reads, writes and adds in one call, on a state that the host keeps, `length` bytes of requests. Comes back: code times 2^32 plus place.
  *
  *     0               all are granted; the place is their count, and the state is the one that they leave one by one
- *     1, 2, 3, 7      the first that would be refused, with its place from 0; no bit of the state changes. 1 also for a kind other than 2 and 3
+ *     1, 2, 3, 7      the first that would be refused, with its place from 0; no bit of the state changes. 1 also for a kind other than 2, 3 and 7
  *     25              place 0: the length is no multiple of 8, or over 512; tested first
  *
  * What is said above of all functions holds of it. It takes less than 6,000 bytes of stack.
@@ -241,13 +244,15 @@ uint64_t reedtangle_batch(uint64_t *next, uint32_t *free, uint32_t *numbers, uin
  *
  * A log as a text, as Casanova and Bernstein 1981 write it: B for an open, R for a read, W for a write, E for an end, the job in decimal, and of a read or
  * a write the cell in square brackets, as in `B1 R1[5] W1[6] E1`. One blank between two symbols, no leading zeros, nothing before or after, no zero byte at the end. The empty
- * text is the empty log. A job is at most 4,294,967,295, a cell in the text at most 65,535; the log rules then refuse one above 255. An abandon has no symbol.
+ * text is the empty log. A job is at most 4,294,967,295, a cell in the text at most 65,535; the log rules then refuse one above 255. An abandon has no symbol, and an
+ * add has none: no text says one, and a log that has one has no text.
  * What is said above of all functions holds of these: total, nothing kept, a refusal writes nothing but `*place`. reedtangle_import takes about 43,000 bytes of stack,
  * reedtangle_export 93,000.
  */
 
 enum {
     REEDTANGLE_TEXT_FORM = 26,      /* place: the first byte that no text of the form could have there, or the length where the text only stops short */
+    REEDTANGLE_TEXT_NO_ADD = 27,    /* place: the first record that is an add */
     REEDTANGLE_TEXT_BYTES = 69632   /* room for the text of any log */
 };
 
@@ -269,7 +274,8 @@ uint32_t reedtangle_import(const uint8_t *text, size_t length, uint8_t *out, siz
  *
  *     0          the text is in `out`, with no symbol of a job that was abandoned; the place is the count of its bytes, and bytes past them stay
  *     11 to 14   the log is at fault; the place is as the codes above say
- *     24         place 0: no room
+ *     27         the log has an add; the place is the first such record
+ *     24         place 0: no room; tested last
  *
  * The import of that text is the log without the records of the jobs that were abandoned.
  */
@@ -286,7 +292,8 @@ typedef struct reedtangle_state {
     uint32_t free;                          /* bit i: slot i is free */
     uint32_t numbers[REEDTANGLE_SLOTS];     /* the job in each slot */
     uint32_t leads[REEDTANGLE_SLOTS];       /* bit j of the i-th: the job in slot i leads to the one in slot j */
-    uint64_t sets[REEDTANGLE_SET_WORDS];    /* sixteen words a slot, four a cell set: own reads, own writes, past reads, past writes */
+    uint64_t sets[REEDTANGLE_SET_WORDS];    /* sixteen words a slot, four a cell set: own used, own altered, past used, past altered;
+                                               used is read or written, altered is written or added to */
 } reedtangle_state;
 
 #ifdef __cplusplus
@@ -359,7 +366,7 @@ static inline void reedtangle_put_request(uint8_t *bytes, uint8_t kind, uint16_t
 /* Puts into eight bytes the record of a request that was granted with this job. Not for a publish, which has two. */
 static inline void reedtangle_put_record(uint8_t *bytes, const uint8_t *request, uint32_t job)
 {
-    int step = request[0] == REEDTANGLE_READ || request[0] == REEDTANGLE_WRITE;
+    int step = request[0] == REEDTANGLE_READ || request[0] == REEDTANGLE_WRITE || request[0] == REEDTANGLE_ADD;
     uint16_t cell = step ? (uint16_t)(request[2] | (request[3] << 8)) : (uint16_t)0;
     reedtangle_put_request(bytes, request[0], cell, job);
 }

@@ -1,8 +1,13 @@
-//! An arbiter in bounded memory, in place, written apart from the project's own and tuned: beside each row's four sets it keeps two
-//! unions, what a read clashes with and what a write clashes with, word by word for all rows side by side; and the rows that have a past.
+//! An arbiter in bounded memory, in place, written apart from the project's own and tuned: beside each row's four sets it keeps three
+//! unions, what a read, a write and an add clash with, word by word for all rows side by side; and the rows that have a past.
 use crate::requests::*;
 
 pub const ROWS: usize = 32;
+
+/// The unions: which one a step is held against.
+const FOR_READ: usize = 0;
+const FOR_WRITE: usize = 1;
+const FOR_ADD: usize = 2;
 
 #[derive(Clone, PartialEq)]
 pub struct Bounded {
@@ -10,10 +15,10 @@ pub struct Bounded {
     pub free: u32,
     pub numbers: [u32; ROWS],
     pub leads: [u32; ROWS],
-    /// own reads, own writes, past reads, past writes: four words each
+    /// own used, own altered, past used, past altered, four words each: used is read or written, altered is written or added to
     pub rows: [[u64; 16]; ROWS],
-    /// for a read: writes, own and past; for a write: everything
-    clash: [[[u64; ROWS]; 4]; 2],
+    /// for a read: what is altered, own and past; for a write: everything; for an add: what is used
+    clash: [[[u64; ROWS]; 4]; 3],
     /// rows whose past is not empty: they precede a job that has ended, and so every job that opens now
     past: u32,
 }
@@ -38,7 +43,7 @@ impl Bounded {
             numbers: [0; ROWS],
             leads: [0; ROWS],
             rows: [[0; 16]; ROWS],
-            clash: [[[0; ROWS]; 4]; 2],
+            clash: [[[0; ROWS]; 4]; 3],
             past: 0,
         }
     }
@@ -57,7 +62,7 @@ impl Bounded {
             numbers,
             leads,
             rows: [[0; 16]; ROWS],
-            clash: [[[0; ROWS]; 4]; 2],
+            clash: [[[0; ROWS]; 4]; 3],
             past: 0,
         };
         for i in 0..ROWS {
@@ -79,9 +84,11 @@ impl Bounded {
     fn unions(&mut self, i: usize) {
         let r = &self.rows[i];
         for w in 0..4 {
-            let writes = r[4 + w] | r[12 + w];
-            self.clash[0][w][i] = writes;
-            self.clash[1][w][i] = writes | r[w] | r[8 + w];
+            let altered = r[4 + w] | r[12 + w];
+            let used = r[w] | r[8 + w];
+            self.clash[FOR_READ][w][i] = altered;
+            self.clash[FOR_WRITE][w][i] = altered | used;
+            self.clash[FOR_ADD][w][i] = used;
         }
         let some = r[8..].iter().any(|&w| w != 0) as u32;
         self.past = self.past & !(1 << i) | some << i;
@@ -93,9 +100,9 @@ impl Bounded {
     }
 
     #[inline]
-    fn touched(&self, s: usize, cell: usize, write: bool) -> u32 {
+    fn touched(&self, s: usize, cell: usize, by: usize) -> u32 {
         let (w, b) = (cell / 64, cell % 64);
-        let column = &self.clash[write as usize][w];
+        let column = &self.clash[by][w];
         let open = !self.free;
         let mut found = 0u32;
         if open.count_ones() < 14 {
@@ -109,7 +116,11 @@ impl Bounded {
             found &= open & !(1 << s);
         }
         let r = &self.rows[s];
-        let past = r[12 + w] | if write { r[8 + w] } else { 0 };
+        let past = match by {
+            FOR_READ => r[12 + w],
+            FOR_ADD => r[8 + w],
+            _ => r[8 + w] | r[12 + w],
+        };
         found | ((((past >> b) & 1) as u32) << s)
     }
 
@@ -134,9 +145,8 @@ impl Bounded {
         }
         self.leads[s] = 0;
         self.rows[s] = [0; 16];
-        for w in 0..4 {
-            self.clash[0][w][s] = 0;
-            self.clash[1][w][s] = 0;
+        for column in self.clash.iter_mut().flatten() {
+            column[s] = 0;
         }
         self.past &= !(1 << s);
     }
@@ -191,15 +201,19 @@ impl Bounded {
                 self.free &= !(1 << s);
                 (0, number)
             }
-            READ | WRITE | PUBLISH => {
+            READ | WRITE | PUBLISH | ADD => {
                 if cell > 255 {
                     return (2, 0);
                 }
                 let Some(s) = self.slot(job) else {
                     return (3, 0);
                 };
-                let write = r[0] != READ;
-                let touched = self.touched(s, cell as usize, write);
+                let by = match r[0] {
+                    READ => FOR_READ,
+                    ADD => FOR_ADD,
+                    _ => FOR_WRITE,
+                };
+                let touched = self.touched(s, cell as usize, by);
                 let seen = self.reached(s);
                 let me = 1u32 << s;
                 if seen & me != 0 || touched & (seen | me) != 0 {
@@ -209,10 +223,14 @@ impl Bounded {
                     self.leads[i] |= me;
                 }
                 let (w, m) = (cell as usize / 64, 1u64 << (cell % 64));
-                self.rows[s][w + if write { 4 } else { 0 }] |= m;
-                self.clash[1][w][s] |= m;
-                if write {
-                    self.clash[0][w][s] |= m;
+                self.clash[FOR_WRITE][w][s] |= m;
+                if by != FOR_ADD {
+                    self.rows[s][w] |= m;
+                    self.clash[FOR_ADD][w][s] |= m;
+                }
+                if by != FOR_READ {
+                    self.rows[s][4 + w] |= m;
+                    self.clash[FOR_READ][w][s] |= m;
                 }
                 if r[0] == PUBLISH {
                     self.end(s);

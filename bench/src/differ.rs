@@ -15,9 +15,10 @@ struct Tally {
     codes: [u64; 8],
     through_ended: u64,
     by_time: u64,
-    /// Publishes that were granted, and publishes that got 7.
-    published: u64,
-    barred: u64,
+    /// Publishes and adds that were granted, and those that got 7; of the adds granted, those that would not have been as writes, where the whole history is kept.
+    published: [u64; 2],
+    added: [u64; 2],
+    spared: u64,
     differ: u64,
 }
 
@@ -25,8 +26,10 @@ impl Tally {
     fn count(&mut self, r: Request, code: u32, same: bool) {
         self.requests += 1;
         self.codes[code as usize] += 1;
-        self.published += (r[0] == PUBLISH && code == 0) as u64;
-        self.barred += (r[0] == PUBLISH && code == 7) as u64;
+        for (kind, sums) in [(PUBLISH, &mut self.published), (ADD, &mut self.added)] {
+            sums[0] += (r[0] == kind && code == 0) as u64;
+            sums[1] += (r[0] == kind && code == 7) as u64;
+        }
         self.differ += !same as u64;
     }
 }
@@ -77,6 +80,7 @@ fn windows(shape: Shape, seed: u64, requests: u64) -> Tally {
         }
         t.through_ended += w.through_ended;
         t.by_time += w.by_time;
+        t.spared += w.spared;
         if !replayed(first, &sent, &said) {
             t.differ += 1;
         }
@@ -167,7 +171,7 @@ fn made_up(seed: u64, states: u64) -> Tally {
             2 => u64::MAX - r.below(2),
             _ => r.below(1000),
         };
-        let kind = 1 + r.below(6) as u8;
+        let kind = 1 + r.below(7) as u8;
         let mut b = Bounded::of(next, free, numbers, leads, &sets);
         let mut o = Ours::of(State {
             next,
@@ -206,8 +210,8 @@ fn show(name: &str, t: &Tally) {
         print!(" {c}");
     }
     println!(
-        ", {} circles through an ended job, {} only by an end before an open, {} publishes granted and {} with code 7, {} differ",
-        t.through_ended, t.by_time, t.published, t.barred, t.differ
+        ", {} circles through an ended job, {} only by an end before an open, publishes granted and with code 7 {:?}, adds {:?}, adds granted where a write would not be {}, {} differ",
+        t.through_ended, t.by_time, t.published, t.added, t.spared, t.differ
     );
 }
 
@@ -219,11 +223,14 @@ pub fn run(seed: u64, requests: u64) -> bool {
     let mut total = 0;
     let mut by_time = 0;
     let mut without = 0;
+    let mut spared = 0;
     let mut count = |name: String, t: Tally| {
         show(&name, &t);
         total += t.requests;
         by_time += t.by_time;
-        without += (t.published == 0 || t.barred == 0) as u32;
+        let sums = [t.published, t.added];
+        without += sums.iter().flatten().any(|&n| n == 0) as u32;
+        spared += t.spared;
         for (sum, n) in codes.iter_mut().zip(t.codes) {
             *sum += n;
         }
@@ -246,8 +253,8 @@ pub fn run(seed: u64, requests: u64) -> bool {
     }
     count("made-up states".to_string(), made_up(seed, requests / 10));
     println!("{total} requests in all, codes {codes:?}");
-    if codes.iter().any(|&n| n == 0) || by_time == 0 || without != 0 {
-        println!("a code was never given, or no circle came only by an end before an open, or in some line no publish was granted or none got 7");
+    if codes.iter().any(|&n| n == 0) || by_time == 0 || spared == 0 || without != 0 {
+        println!("a code was never given, or no circle came only by an end before an open, or no add was granted where a write would not be, or in some line no publish or no add was granted or none got 7");
         failed += 1;
     } else {
         passed += 1;

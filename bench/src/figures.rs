@@ -154,7 +154,7 @@ fn stack(text: &mut String) {
             let replay = depth(&mut || by_replay(&bytes, &mut out));
             let value = depth(&mut || by_value(&bytes, &mut out));
             let mut r = Random::new(5);
-            let log = logs::granted(&mut r, 4096, 512, 32, 12, false);
+            let log = logs::granted(&mut r, 4096, 512, 32, 12, false, false);
             let order = judge::list(&log, 512).1;
             let mut lent = vec![0u32; 512];
             let check = depth(&mut || {

@@ -1,5 +1,5 @@
-//! A checker and a lister in plain Rust, written apart from the project's own: a hash-free table of jobs found by halving, edges to the last writer and to the
-//! readers since, and at an open to every job that has ended; counts of predecessors not yet placed.
+//! A checker and a lister in plain Rust, written apart from the project's own: a hash-free table of jobs found by halving, edges to the last writer, to the
+//! readers and the adders since, and at an open to every job that has ended; counts of predecessors not yet placed.
 
 #[derive(Clone, Copy, PartialEq, Debug)]
 pub struct Verdict {
@@ -24,6 +24,7 @@ enum Did {
     Open,
     Read(u8),
     Write(u8),
+    Add(u8),
     End,
 }
 
@@ -52,8 +53,12 @@ fn read(log: &[u8]) -> Result<Table, Verdict> {
     for (place, r) in log.chunks_exact(8).enumerate() {
         let cell = u16::from_le_bytes([r[2], r[3]]);
         let job = u32::from_le_bytes([r[4], r[5], r[6], r[7]]);
-        if r[1] != 0 || r[0] == 0 || r[0] > 5 || cell > if r[0] == 2 || r[0] == 3 { 255 } else { 0 }
-        {
+        let most = match r[0] {
+            1 | 4 | 5 => Some(0),
+            2 | 3 | 7 => Some(255),
+            _ => None,
+        };
+        if r[1] != 0 || most.is_none_or(|most| cell > most) {
             return Err(verdict(12, place));
         }
         if r[0] == 1 {
@@ -82,6 +87,7 @@ fn read(log: &[u8]) -> Result<Table, Verdict> {
         let (after, did) = match r[0] {
             2 => (stand, Did::Read(cell as u8)),
             3 => (Stand::Wrote, Did::Write(cell as u8)),
+            7 => (Stand::Wrote, Did::Add(cell as u8)),
             4 => (Stand::Ended, Did::End),
             _ => {
                 t.stand[i] = Stand::Abandoned;
@@ -110,8 +116,8 @@ pub fn check(log: &[u8], order: &[u32]) -> Verdict {
     if order.len() < kept {
         return verdict(15, order.len());
     }
-    // the highest place of those that read each cell, that wrote it, and that have ended
-    let (mut read, mut wrote, mut ended) = ([0u32; 256], [0u32; 256], 0);
+    // the highest place of those that read each cell, that wrote it, that added to it, and that have ended
+    let (mut read, mut wrote, mut added, mut ended) = ([0u32; 256], [0u32; 256], [0u32; 256], 0);
     for &(i, did, record) in &t.did {
         if !t.is_kept(i) {
             continue;
@@ -119,10 +125,19 @@ pub fn check(log: &[u8], order: &[u32]) -> Verdict {
         let p = place[i as usize];
         let (before, of) = match did {
             Did::Open => (ended, None),
-            Did::Read(c) => (wrote[c as usize], Some(&mut read[c as usize])),
+            Did::Read(c) => (
+                wrote[c as usize].max(added[c as usize]),
+                Some(&mut read[c as usize]),
+            ),
             Did::Write(c) => (
-                wrote[c as usize].max(read[c as usize]),
+                wrote[c as usize]
+                    .max(read[c as usize])
+                    .max(added[c as usize]),
                 Some(&mut wrote[c as usize]),
+            ),
+            Did::Add(c) => (
+                wrote[c as usize].max(read[c as usize]),
+                Some(&mut added[c as usize]),
             ),
             Did::End => (0, Some(&mut ended)),
         };
@@ -146,11 +161,12 @@ pub fn list(log: &[u8], room: usize) -> (Verdict, Vec<u32>) {
     if room < kept {
         return (verdict(18, kept), vec![]);
     }
-    // edges to the last writer and to the readers since it: the others follow
+    // edges to the last writer, and to the readers and the adders since it: the others follow
     let mut after: Vec<Vec<u16>> = vec![vec![]; n];
     let mut waits = vec![0u32; n];
     let mut writer: Vec<Option<u16>> = vec![None; 256];
     let mut readers: Vec<Vec<u16>> = vec![vec![]; 256];
+    let mut adders: Vec<Vec<u16>> = vec![vec![]; 256];
     let mut ended: Vec<u16> = vec![];
     for &(i, did, _) in &t.did {
         if !t.is_kept(i) {
@@ -166,12 +182,19 @@ pub fn list(log: &[u8], room: usize) -> (Verdict, Vec<u32>) {
             Did::Open => edges(&mut ended.iter().copied()),
             Did::Read(c) => {
                 edges(&mut writer[c as usize].into_iter());
+                edges(&mut adders[c as usize].iter().copied());
                 readers[c as usize].push(i);
             }
             Did::Write(c) => {
                 edges(&mut writer[c as usize].into_iter());
                 edges(&mut readers[c as usize].drain(..));
+                edges(&mut adders[c as usize].drain(..));
                 writer[c as usize] = Some(i);
+            }
+            Did::Add(c) => {
+                edges(&mut writer[c as usize].into_iter());
+                edges(&mut readers[c as usize].iter().copied());
+                adders[c as usize].push(i);
             }
             Did::End => ended.push(i),
         }

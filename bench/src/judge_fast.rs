@@ -1,8 +1,8 @@
 //! A checker and a lister made to be fast, the partner of the figures: safe Rust, written apart from the project's own and from `judge`. One pass over the
 //! records, nothing allocated. The checker takes down the places of the order before it reads the log, so that a step is held at once against the latest
 //! place that its cell has seen, and an open against the latest place of those that have ended; a job that the order lacks is passed over, since it is abandoned
-//! or missing in the end. The lister keeps sets of bits: for each job some that it comes after, for each cell the last writer and the readers since, and those
-//! that have ended.
+//! or missing in the end. The lister keeps sets of bits: for each job some that it comes after, for each cell the last writer, the readers and the adders since,
+//! and those that have ended. Reads and writes are looked for first; adds take the way of the other records.
 use crate::judge::Verdict;
 
 type Records<'a> = &'a [[u8; 8]];
@@ -34,6 +34,9 @@ trait Find {
 
 /// Of a read or a write, with a cell below 256, these bits of the record are 2.
 const STEP: u64 = 0xff00_fffe;
+
+/// Of an add, with a cell below 256, these bits of the record are 7.
+const ADD: u64 = 0xff00_ffff;
 
 /// Jobs side by side, as an arbiter issues them: a difference.
 struct Dense {
@@ -210,6 +213,7 @@ trait Told {
     fn open(&mut self, number: usize, place: usize);
     /// A read, 0, or a write, 1.
     fn step(&mut self, number: usize, cell: usize, write: usize, place: usize) -> bool;
+    fn add(&mut self, number: usize, cell: usize, place: usize) -> bool;
     fn end(&mut self, number: usize) -> bool;
     fn abandon(&mut self, number: usize) -> bool;
 }
@@ -254,6 +258,7 @@ fn read<F: Find, T: Told>(records: Records, find: &mut F, told: &mut T) -> Resul
             4 => told.end(find.at(job)),
             5 => told.abandon(find.at(job)),
             _ if record & STEP == 2 => false,
+            _ if record & ADD == 7 => told.add(find.at(job), (record >> 16) as usize & 255, place),
             _ => return Err(fault(12, place)),
         };
         if !turn {
@@ -288,7 +293,7 @@ fn again(stop: Stop, next: impl FnOnce() -> Result<Verdict, Stop>) -> Result<Ver
 
 // ---- the checker
 
-// How a job stands: one of these, an open one with 1 more once it wrote; or, where the order has the job and it is open, twice its place there, from
+// How a job stands: one of these, an open one with 1 more once it wrote or added; or, where the order has the job and it is open, twice its place there, from
 // `FIRST` on, and again 1 more.
 const NEVER: u32 = 0;
 const ENDED: u32 = 2;
@@ -300,7 +305,7 @@ struct Check {
     stands: [u32; ROOM],
     /// How a job that the order has stands once it is open.
     places: [u32; ROOM],
-    /// For each cell: a place for what is not kept, nothing, the highest that wrote, the highest that did anything.
+    /// For each cell: a place for what is not kept, the highest that read or wrote, the highest that wrote or added, the highest that did anything.
     highest: [[u32; 4]; 256],
     /// The highest that has ended; an open job that the order lacks counts as below all that it has.
     ended: u32,
@@ -345,8 +350,26 @@ impl Told for Check {
         if at < highest[2 + write] {
             return self.below(before, place);
         }
+        highest[1] = highest[1].max(at);
         highest[3] = highest[3].max(at);
         highest[2 * write] = at;
+        true
+    }
+
+    #[inline(always)]
+    fn add(&mut self, number: usize, cell: usize, place: usize) -> bool {
+        let Some(stand) = self.stands.get_mut(number) else {
+            return false;
+        };
+        let before = *stand;
+        *stand = before | 1;
+        let highest = &mut self.highest[cell];
+        let at = before | 1;
+        if at < highest[1] {
+            return self.below(before, place);
+        }
+        highest[2] = highest[2].max(at);
+        highest[3] = highest[3].max(at);
         true
     }
 
@@ -453,12 +476,13 @@ fn mark(number: usize) -> Mark {
     }
 }
 
-/// The last writer of a cell, and that one with the readers since.
+/// The last writer of a cell, that one with the readers since, and whether there were adders since.
 #[derive(Clone, Copy)]
 #[repr(align(128))]
 struct Cell {
-    touched: [u64; 8],
+    used: [u64; 8],
     writer: Mark,
+    added: bool,
 }
 
 struct List {
@@ -466,8 +490,17 @@ struct List {
     /// For each job, jobs that it comes after; what those come after may be left out.
     after: [[u64; 8]; 512],
     cells: [Cell; 256],
+    /// For each cell the adders since its last writer.
+    adders: [[u64; 8]; 256],
     kept: [u64; 8],
     ended: [u64; 8],
+}
+
+#[inline(always)]
+fn join(after: &mut [u64; 8], more: &[u64; 8]) {
+    for (a, m) in after.iter_mut().zip(more) {
+        *a |= m;
+    }
 }
 
 impl Told for List {
@@ -489,18 +522,40 @@ impl Told for List {
         }
         let me = mark(number);
         let after = &mut self.after[number];
+        let adders = &mut self.adders[cell];
         let cell = &mut self.cells[cell];
+        if cell.added {
+            join(after, adders);
+        }
         if write == 1 {
             *stand = Stand::Wrote;
-            for (a, t) in after.iter_mut().zip(cell.touched) {
-                *a |= t;
+            join(after, &cell.used);
+            if cell.added {
+                *adders = [0; 8];
+                cell.added = false;
             }
-            cell.touched = [0; 8];
+            cell.used = [0; 8];
             cell.writer = me;
         } else {
             after[cell.writer.word % 8] |= cell.writer.bit;
         }
-        cell.touched[me.word] |= me.bit;
+        cell.used[me.word] |= me.bit;
+        true
+    }
+
+    #[inline(always)]
+    fn add(&mut self, number: usize, cell: usize, _: usize) -> bool {
+        let Some(stand) = self.stands.get_mut(number) else {
+            return false;
+        };
+        if *stand > Stand::Wrote {
+            return false;
+        }
+        *stand = Stand::Wrote;
+        let me = mark(number);
+        join(&mut self.after[number], &self.cells[cell].used);
+        self.cells[cell].added = true;
+        self.adders[cell][me.word] |= me.bit;
         true
     }
 
@@ -612,13 +667,15 @@ impl Queue<'_> {
 fn list_by<F: Find>(records: Records, out: &mut [u32]) -> Result<Verdict, Stop> {
     let mut find = F::new(records);
     let no_cell = Cell {
-        touched: [0; 8],
+        used: [0; 8],
         writer: Mark { word: 0, bit: 0 },
+        added: false,
     };
     let mut list = List {
         stands: [Stand::Never; 512],
         after: [[0; 8]; 512],
         cells: [no_cell; 256],
+        adders: [[0; 8]; 256],
         kept: [0; 8],
         ended: [0; 8],
     };

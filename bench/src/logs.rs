@@ -2,13 +2,15 @@
 use crate::bounded::Bounded;
 use crate::requests::*;
 
-/// The log of granted requests from a fresh state: at most so many records and jobs, with so many open at once, on so many cells.
+/// The log of granted requests from a fresh state: at most so many records and jobs, with so many open at once, on so many cells, with
+/// adds or without, with gaps between the numbers or without.
 pub fn granted(
     r: &mut Random,
     records: usize,
     jobs: usize,
     open: usize,
     cells: u64,
+    adds: bool,
     gap: bool,
 ) -> Vec<u8> {
     let first = if gap { 0 } else { r.below(100) as u32 };
@@ -31,12 +33,12 @@ pub fn granted(
             if opened < jobs && r.one_in(steps + 1) {
                 request(if r.one_in(6) { ABANDON } else { END }, 0, 0, job)
             } else {
-                request(
-                    if r.one_in(3) { WRITE } else { READ },
-                    0,
-                    r.below(cells) as u16,
-                    job,
-                )
+                let kind = match r.one_in(3) {
+                    true if adds && r.one_in(2) => ADD,
+                    true => WRITE,
+                    false => READ,
+                };
+                request(kind, 0, r.below(cells) as u16, job)
             }
         };
         let (code, job) = b.ask(q);
@@ -131,7 +133,8 @@ pub fn loose(r: &mut Random, records: usize, jobs: usize, cells: u64) -> Vec<u8>
                 open.swap_remove(i);
             }
             2..=5 => {
-                log.extend_from_slice(&request(WRITE, 0, r.below(cells) as u16, job));
+                let kind = if r.one_in(2) { WRITE } else { ADD };
+                log.extend_from_slice(&request(kind, 0, r.below(cells) as u16, job));
                 open[i].1 = true;
             }
             _ => log.extend_from_slice(&request(READ, 0, r.below(cells) as u16, job)),

@@ -51,7 +51,7 @@ fn fault(v: Verdict) -> String {
     match v.code {
         11 => "the log is no whole number of records of 8 bytes, or has more than 4096 of them".into(),
         12 => format!("record {p} has a wrong kind, a byte 1 that is not 0, a cell above 255, or a cell that must be 0 and is not"),
-        13 => format!("record {p} is out of turn: an open that is not above all numbers opened before, a job that is not open there, or an abandon after its own write"),
+        13 => format!("record {p} is out of turn: an open that is not above all numbers opened before, a job that is not open there, or an abandon after its own write or add"),
         _ => format!("record {p} opens the 513th job"),
     }
 }
@@ -126,8 +126,9 @@ struct Tried {
     failed: u32,
     /// How often each verdict was expected.
     codes: [u32; 19],
-    /// How many publishes the trial program was given, and how many of them are granted.
+    /// How many publishes and how many adds the trial program was given, and how many of them are granted.
     published: (u64, u64),
+    added: (u64, u64),
 }
 
 impl Tried {
@@ -242,7 +243,7 @@ impl Tried {
 
     /// Lengths at the ends of what a log and an order can have, and past them.
     fn lengths(&mut self, r: &mut Random) {
-        let long = logs::granted(r, 4096, 512, 32, 256, false);
+        let long = logs::granted(r, 4096, 512, 32, 256, true, false);
         for bytes in [
             0, 1, 7, 8, 9, 32760, 32761, 32767, 32768, 32769, 32776, 70000,
         ] {
@@ -278,7 +279,7 @@ impl Tried {
 
     /// Files that are not there or cannot be read, a name too long, too few and too many words, an output that is full, a log through a pipe.
     fn files(&mut self, r: &mut Random) {
-        let log = logs::granted(r, 300, 40, 8, 12, false);
+        let log = logs::granted(r, 300, 40, 8, 12, true, false);
         let order = bytes_of(&judge::list(&log, 512).1);
         let (l, o) = (self.file("log", &log), self.file("order", &order));
         let nowhere = self.folder.join("nowhere").to_str().unwrap().to_string();
@@ -352,9 +353,11 @@ impl Tried {
 
     /// From a file.
     fn trial(&mut self, what: &str, input: &[u8]) {
-        let (asked, granted) = publishes(input);
-        self.published.0 += asked;
-        self.published.1 += granted;
+        for (kind, sum) in [(PUBLISH, &mut self.published), (ADD, &mut self.added)] {
+            let (asked, granted) = given(input, kind);
+            sum.0 += asked;
+            sum.1 += granted;
+        }
         let path = self.file("requests", input);
         let mut command = self.command("trial", &[]);
         let said = command.stdin(std::fs::File::open(path).unwrap()).output();
@@ -430,14 +433,14 @@ fn history(shape: Shape, seed: u64, requests: u64) -> Vec<u8> {
         .collect()
 }
 
-/// The publishes among requests, and those of them that are granted.
-fn publishes(input: &[u8]) -> (u64, u64) {
+/// How many of the requests are of the kind, and how many of those are granted.
+fn given(input: &[u8], kind: u8) -> (u64, u64) {
     let mut b = Bounded::new(1);
     let mut sum = (0, 0);
     for q in input.chunks_exact(8) {
         let (code, _) = b.ask(q.try_into().unwrap());
-        sum.0 += (q[0] == PUBLISH) as u64;
-        sum.1 += (q[0] == PUBLISH && code == 0) as u64;
+        sum.0 += (q[0] == kind) as u64;
+        sum.1 += (q[0] == kind && code == 0) as u64;
     }
     sum
 }
@@ -460,6 +463,7 @@ pub fn run(programs: &str, seed: u64, logs: u32) -> bool {
         failed: 0,
         codes: [0; 19],
         published: (0, 0),
+        added: (0, 0),
     };
     let r = &mut Random::new(seed.wrapping_mul(17_000_003));
     t.random(r, logs);
@@ -473,9 +477,10 @@ pub fn run(programs: &str, seed: u64, logs: u32) -> bool {
         t.failed += (t.codes[code] == 0) as u32;
     }
     println!();
-    let (asked, granted) = t.published;
-    println!("the trial program was given {asked} publishes, of which {granted} are granted");
-    t.failed += (granted == 0 || granted == asked) as u32;
+    for (kind, (asked, granted)) in [("publishes", t.published), ("adds", t.added)] {
+        println!("the trial program was given {asked} {kind}, of which {granted} are granted");
+        t.failed += (granted == 0 || granted == asked) as u32;
+    }
     println!("{} passed, {} failed", t.passed, t.failed);
     t.failed != 0
 }

@@ -7,6 +7,8 @@ pub const END: u8 = 4;
 pub const ABANDON: u8 = 5;
 /// A write and the end of its job.
 pub const PUBLISH: u8 = 6;
+/// A raise of a counter: it conflicts with reads and writes, not with another add.
+pub const ADD: u8 = 7;
 
 pub type Request = [u8; 8];
 
@@ -139,25 +141,25 @@ impl Stream {
         match r.below(6) {
             0 => request(r.next() as u8, 0, r.below(300) as u16, known),
             1 => request(
-                1 + r.below(6) as u8,
+                1 + r.below(7) as u8,
                 1 << r.below(8),
                 r.below(300) as u16,
                 known,
             ),
             2 => request(
-                [READ, WRITE, PUBLISH][r.below(3) as usize],
+                [READ, WRITE, PUBLISH, ADD][r.below(4) as usize],
                 0,
                 256 + r.below(65280) as u16,
                 if r.one_in(2) { known } else { r.next() as u32 },
             ),
             3 => request(
-                2 + r.below(5) as u8,
+                2 + r.below(6) as u8,
                 0,
                 r.below(256) as u16,
                 r.next() as u32,
             ),
             4 => request(
-                2 + r.below(5) as u8,
+                2 + r.below(6) as u8,
                 0,
                 r.below(256) as u16,
                 known.wrapping_sub(1 + r.below(9) as u32),
@@ -210,12 +212,12 @@ impl Stream {
             Shape::Abandons => 4,
             _ => 2,
         };
-        request(
-            if r.one_in(writes) { WRITE } else { READ },
-            0,
-            r.below(cells) as u16,
-            job,
-        )
+        let kind = match r.one_in(writes) {
+            true if r.one_in(2) => ADD,
+            true => WRITE,
+            false => READ,
+        };
+        request(kind, 0, r.below(cells) as u16, job)
     }
 
     /// The reply to the request asked last.

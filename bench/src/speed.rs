@@ -185,9 +185,9 @@ pub const LOGS: [(&str, &str); 4] = [
 pub fn log_of(kind: &str) -> Vec<u8> {
     let r = &mut Random::new(5);
     match kind {
-        "sparse" => logs::granted(r, 4096, 512, 32, 256, false),
-        "dense" => logs::granted(r, 4096, 512, 32, 12, false),
-        "gaps" => logs::granted(r, 4096, 512, 32, 256, true),
+        "sparse" => logs::granted(r, 4096, 512, 32, 256, false, false),
+        "dense" => logs::granted(r, 4096, 512, 32, 12, false, false),
+        "gaps" => logs::granted(r, 4096, 512, 32, 256, false, true),
         "reversed" => logs::reversed(512),
         _ => panic!("no kind of logs: {kind}"),
     }

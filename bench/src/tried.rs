@@ -19,6 +19,7 @@ fn kind_of(word: &str) -> u8 {
         "end" => END,
         "abandon" => ABANDON,
         "publish" => PUBLISH,
+        "add" => ADD,
         w => number(w),
     }
 }

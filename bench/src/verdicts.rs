@@ -34,7 +34,7 @@ pub fn log(r: &mut Random) -> Vec<u8> {
         logs::reversed(512)
     } else if r.one_in(2) {
         let open = 2 + r.below(31) as usize;
-        logs::granted(r, size, jobs, open, cells, false)
+        logs::granted(r, size, jobs, open, cells, true, false)
     } else {
         logs::loose(r, size, jobs, cells)
     };
@@ -73,7 +73,7 @@ pub fn damage(r: &mut Random, log: &mut Vec<u8>) {
         _ if !log.is_empty() => {
             let at = r.below(log.len() as u64) as usize;
             log[at] = if r.one_in(2) {
-                r.below(7) as u8
+                r.below(9) as u8
             } else {
                 r.next() as u8
             };

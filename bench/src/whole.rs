@@ -12,8 +12,11 @@ struct Granted {
 
 /// Does the job of the earlier one precede that of the later one by these two? Two steps that conflict, or an end and an open after it.
 fn precedes(x: Granted, y: Granted) -> bool {
-    let steps = [x.kind, y.kind].iter().all(|&k| k == READ || k == WRITE);
-    let conflict = steps && x.cell == y.cell && (x.kind == WRITE || y.kind == WRITE);
+    let steps = [x.kind, y.kind]
+        .iter()
+        .all(|&k| k == READ || k == WRITE || k == ADD);
+    // two reads may change places, and so may two adds
+    let conflict = steps && x.cell == y.cell && (x.kind != y.kind || x.kind == WRITE);
     x.job != y.job && (conflict || (x.kind == END && y.kind == OPEN))
 }
 
@@ -26,6 +29,8 @@ pub struct Whole {
     /// Of the refusals with code 7: how many circles pass a job that has ended, and how many there would not be without the pairs of an end and a later open.
     pub through_ended: u64,
     pub by_time: u64,
+    /// How many adds were granted where a write would not have been.
+    pub spared: u64,
 }
 
 impl Whole {
@@ -38,6 +43,7 @@ impl Whole {
             history: vec![],
             through_ended: 0,
             by_time: 0,
+            spared: 0,
         }
     }
 
@@ -48,13 +54,7 @@ impl Whole {
     /// Is there a chain of precedences from the asking job back to itself once the step is there? Every new precedence points into the asking job, and
     /// there was no circle before, so each circle passes it. Found by walking from the job along precedences, over every pair of the kept history.
     fn closes(&mut self, step: Granted) -> bool {
-        let kept: Vec<Granted> = self
-            .history
-            .iter()
-            .copied()
-            .filter(|g| !self.abandoned.contains(&g.job))
-            .chain([step])
-            .collect();
+        let kept = self.kept_with(step);
         let Some(ended) = self.circle(&kept, step.job) else {
             return false;
         };
@@ -62,6 +62,13 @@ impl Whole {
         let steps: Vec<Granted> = kept.into_iter().filter(|g| g.kind != END).collect();
         self.by_time += self.circle(&steps, step.job).is_none() as u64;
         true
+    }
+
+    /// The kept history with one step more.
+    fn kept_with(&self, step: Granted) -> Vec<Granted> {
+        let kept = |g: &&Granted| !self.abandoned.contains(&g.job);
+        let history = self.history.iter().filter(kept).copied();
+        history.chain([step]).collect()
     }
 
     /// A circle through the job, if there is one: does the one found pass a job that has ended?
@@ -131,17 +138,22 @@ impl Whole {
                 self.opened.push(number);
                 self.grant(OPEN, number, 0)
             }
-            READ | WRITE | PUBLISH => {
+            READ | WRITE | PUBLISH | ADD => {
                 if cell > 255 {
                     return (2, 0);
                 }
                 if !self.is_open(job) {
                     return (3, 0);
                 }
-                let kind = if r[0] == READ { READ } else { WRITE };
+                let kind = if r[0] == PUBLISH { WRITE } else { r[0] };
                 let cell = cell as u8;
                 if self.closes(Granted { kind, job, cell }) {
                     return (7, 0);
+                }
+                if kind == ADD {
+                    let kind = WRITE;
+                    let write = self.kept_with(Granted { kind, job, cell });
+                    self.spared += self.circle(&write, job).is_some() as u64;
                 }
                 self.grant(kind, job, cell);
                 if r[0] == PUBLISH {
@@ -159,7 +171,8 @@ impl Whole {
                 if !self.is_open(job) {
                     return (3, 0);
                 }
-                if self.history.iter().any(|g| g.job == job && g.kind == WRITE) {
+                let bars = |g: &Granted| g.job == job && (g.kind == WRITE || g.kind == ADD);
+                if self.history.iter().any(bars) {
                     return (4, 0);
                 }
                 self.abandoned.push(job);

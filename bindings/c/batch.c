@@ -35,7 +35,7 @@ static uint64_t one_by_one(reedtangle_state *s, const uint8_t *requests, size_t 
     }
     for (size_t i = 0; i < length / 8; i++) {
         const uint8_t *r = requests + 8 * i;
-        uint64_t code = r[0] == REEDTANGLE_READ || r[0] == REEDTANGLE_WRITE ? step(&now, r) >> 32 : REEDTANGLE_MALFORMED;
+        uint64_t code = r[0] == REEDTANGLE_READ || r[0] == REEDTANGLE_WRITE || r[0] == REEDTANGLE_ADD ? step(&now, r) >> 32 : REEDTANGLE_MALFORMED;
         if (code != 0) {
             return (code << 32) + i;
         }
@@ -54,7 +54,8 @@ int main(void)
 {
     static reedtangle_state ours, theirs;
     static uint8_t requests[8 * 70];
-    size_t codes[32] = {0}, wrong = 0, batches = 20000;
+    static const uint8_t kinds[6] = {REEDTANGLE_READ, REEDTANGLE_READ, REEDTANGLE_READ, REEDTANGLE_READ, REEDTANGLE_WRITE, REEDTANGLE_ADD};
+    size_t codes[32] = {0}, wrong = 0, added = 0, batches = 20000;
     uint8_t one[8];
     reedtangle_start(&ours, 1);
     for (size_t n = 0; n < batches; n++) {
@@ -62,9 +63,10 @@ int main(void)
         put(one, drawn(3) == 0 ? (drawn(2) == 0 ? REEDTANGLE_END : REEDTANGLE_PUBLISH) : REEDTANGLE_OPEN, drawn(40), (uint32_t)ours.next > 20 ? (uint32_t)ours.next - 1 - drawn(20) : 1);
         step(&ours, one);
         size_t items = drawn(8) == 0 ? drawn(70) : drawn(12), length = 8 * items;
+        int raises = drawn(3) == 0; /* adds for the most part */
         for (size_t i = 0; i < items; i++) {
             uint32_t job = ours.numbers[drawn(32)];
-            put(requests + 8 * i, drawn(200) == 0 ? drawn(7) : 2 + drawn(3) / 2, drawn(300) == 0 ? 256 + drawn(9) : drawn(40), drawn(100) == 0 ? job + 1 : job);
+            put(requests + 8 * i, drawn(200) == 0 ? drawn(9) : raises && drawn(12) != 0 ? REEDTANGLE_ADD : kinds[drawn(6)], drawn(300) == 0 ? 256 + drawn(9) : drawn(40), drawn(100) == 0 ? job + 1 : job);
         }
         if (drawn(60) == 0) {
             length += 1 + drawn(7);
@@ -74,15 +76,18 @@ int main(void)
         uint64_t want = one_by_one(&theirs, requests, length);
         uint64_t came = reedtangle_batch(&ours.next, &ours.free, ours.numbers, ours.leads, ours.sets, requests, length);
         codes[came >> 32 & 31] += 1;
+        for (size_t i = 0; came >> 32 == 0 && i < items; i++) {
+            added += requests[8 * i] == REEDTANGLE_ADD;
+        }
         wrong += came != want || !same(&ours, &theirs);
         if (!same(&ours, &theirs)) {
             ours = theirs;
         }
     }
-    printf("%zu batches; codes 0, 1, 2, 3, 7, 25: %zu %zu %zu %zu %zu %zu\n", batches, codes[0], codes[1], codes[2], codes[3], codes[7], codes[25]);
-    int enough = codes[0] > 500 && codes[1] > 50 && codes[2] > 50 && codes[3] > 50 && codes[7] > 500 && codes[25] > 50;
+    printf("%zu batches; codes 0, 1, 2, 3, 7, 25: %zu %zu %zu %zu %zu %zu; %zu adds in those granted\n", batches, codes[0], codes[1], codes[2], codes[3], codes[7], codes[25], added);
+    int enough = codes[0] > 500 && codes[1] > 50 && codes[2] > 50 && codes[3] > 50 && codes[7] > 500 && codes[25] > 50 && added > 100;
     printf("%s  each answer and each state is that of single steps\n", wrong == 0 ? "ok  " : "FAIL");
-    printf("%s  every code came often enough to tell\n", enough ? "ok  " : "FAIL");
+    printf("%s  every code and an add came often enough to tell\n", enough ? "ok  " : "FAIL");
     printf("%d passed, %d failed\n", (wrong == 0) + enough, (wrong != 0) + !enough);
     return wrong != 0 || !enough;
 }

@@ -105,7 +105,7 @@ static const row other[] = {
     {1, 0, 0, 0, 0, 70000},      {1, 0, 0, 0, 0, 70001},      {3, 0, 7, 70000, 0, 70000}, {2, 0, 7, 70001, 0, 70001},
     {3, 0, 9, 70001, 0, 70001},  {4, 0, 0, 70001, 0, 70001},  {2, 0, 9, 70000, 7, 0},     {5, 0, 0, 70000, 4, 0},
     {4, 0, 65535, 70000, 0, 70000}, {2, 0, 300, 70002, 2, 0}, {1, 0, 9, 9, 0, 70002},     {2, 0, 0, 70000, 3, 0},
-    {2, 1, 0, 70002, 1, 0},      {7, 0, 0, 70002, 1, 0},      {2, 0, 255, 70002, 0, 70002}, {5, 0, 0, 70002, 0, 70002},
+    {2, 1, 0, 70002, 1, 0},      {8, 0, 0, 70002, 1, 0},      {2, 0, 255, 70002, 0, 70002}, {5, 0, 0, 70002, 0, 70002},
 };
 
 enum { NIGHT = sizeof night / sizeof night[0], OTHER = sizeof other / sizeof other[0] };
@@ -258,9 +258,11 @@ static void fields_by_hand(void)
     want.numbers[0] = 100;
     want.numbers[1] = 101;
     want.leads[1] = 1;                      /* job 101, in slot 1, leads to job 100, in slot 0 */
-    want.sets[0 * 16 + 4] = 1u << 5;        /* own writes of slot 0: cell 5 */
-    want.sets[1 * 16 + 0] = 1u << 5;        /* own reads of slot 1: cell 5 */
-    want.sets[1 * 16 + 5] = 1u << 5;        /* own writes of slot 1, second word: cell 64 + 5 */
+    want.sets[0 * 16 + 0] = 1u << 5;        /* own used of slot 0: cell 5, written */
+    want.sets[0 * 16 + 4] = 1u << 5;        /* own altered of slot 0: cell 5 */
+    want.sets[1 * 16 + 0] = 1u << 5;        /* own used of slot 1: cell 5, read */
+    want.sets[1 * 16 + 1] = 1u << 5;        /* and, in the second word, cell 64 + 5, written */
+    want.sets[1 * 16 + 5] = 1u << 5;        /* own altered of slot 1, second word: cell 64 + 5 */
     tell(good && same(&one, &want), "two open jobs: next, free, numbers, leads and own sets as worked out by hand");
 
     reedtangle_put_request(bytes, REEDTANGLE_END, 0, 100);
@@ -268,8 +270,10 @@ static void fields_by_hand(void)
     want.free = 0xfffffffd;
     want.numbers[0] = 0;
     want.leads[1] = 0;
+    want.sets[0 * 16 + 0] = 0;
     want.sets[0 * 16 + 4] = 0;
-    want.sets[1 * 16 + 12] = 1u << 5;       /* past writes of slot 1: cell 5 */
+    want.sets[1 * 16 + 8] = 1u << 5;        /* past used of slot 1: cell 5 */
+    want.sets[1 * 16 + 12] = 1u << 5;       /* past altered of slot 1: cell 5 */
     tell(good && same(&one, &want), "one of them ended: its slot is blank, and the past of the other has its write");
 
     reedtangle_put_request(bytes, REEDTANGLE_OPEN, 0, 0);
@@ -289,7 +293,7 @@ static void publishes(void)
 {
     static const row rows[] = {
         {1, 0, 0, 0, 0, 1}, {1, 0, 0, 0, 0, 2}, {1, 0, 0, 0, 0, 3}, {2, 0, 5, 1, 0, 1}, {6, 0, 5, 2, 0, 2}, {6, 0, 6, 2, 3, 0}, {6, 0, 256, 2, 2, 0},
-        {6, 0, 5, 1, 7, 0}, {6, 1, 8, 1, 1, 0}, {7, 0, 8, 1, 1, 0}, {2, 0, 8, 1, 0, 1}, {6, 0, 9, 1, 0, 1}, {4, 0, 0, 1, 3, 0}, {6, 0, 5, 3, 0, 3},
+        {6, 0, 5, 1, 7, 0}, {6, 1, 8, 1, 1, 0}, {8, 0, 8, 1, 1, 0}, {2, 0, 8, 1, 0, 1}, {6, 0, 9, 1, 0, 1}, {4, 0, 0, 1, 3, 0}, {6, 0, 5, 3, 0, 3},
     };
     static const uint8_t records[10][8] = {
         {1, 0, 0, 0, 1}, {1, 0, 0, 0, 2}, {1, 0, 0, 0, 3}, {2, 0, 5, 0, 1}, {3, 0, 5, 0, 2}, {4, 0, 0, 0, 2}, {2, 0, 8, 0, 1}, {3, 0, 9, 0, 1}, {4, 0, 0, 0, 1}, {3, 0, 5, 0, 3},
@@ -326,6 +330,55 @@ static void publishes(void)
     log.bytes[4 * 8] = REEDTANGLE_PUBLISH;
     good = verdict_is(reedtangle_list(log.bytes, log.length, list, 3), REEDTANGLE_FORM, 4);
     tell(good && verdict_is(reedtangle_check(log.bytes, log.length, list, 3), REEDTANGLE_FORM, 4), "a record of kind 6 gets 12 of both");
+}
+
+/*
+ * Adds. 1 and 2 raise cell 9 by turns; 3 reads it, so both come before 3 and may not come to that cell any more. 3 and 1 add to cell 10: 1 may not read
+ * it, but add to it. An add bars abandoning.
+ */
+static void adds(void)
+{
+    static const row rows[] = {
+        {1, 0, 0, 0, 0, 1},  {1, 0, 0, 0, 0, 2},  {1, 0, 0, 0, 0, 3}, {7, 0, 9, 1, 0, 1}, {7, 0, 9, 2, 0, 2},   {7, 0, 9, 1, 0, 1}, {2, 0, 9, 3, 0, 3}, {7, 0, 9, 1, 7, 0}, {3, 0, 9, 2, 7, 0}, {7, 0, 10, 3, 0, 3},
+        {7, 0, 10, 1, 0, 1}, {2, 0, 10, 1, 7, 0}, {5, 0, 0, 1, 4, 0}, {7, 1, 9, 9, 1, 0}, {7, 0, 256, 9, 2, 0}, {7, 0, 9, 9, 3, 0}, {8, 0, 9, 1, 1, 0}, {4, 0, 0, 3, 0, 3}, {7, 0, 9, 1, 7, 0}, {7, 0, 10, 2, 0, 2},
+    };
+    static const uint8_t records[11][8] = {
+        {1, 0, 0, 0, 1}, {1, 0, 0, 0, 2}, {1, 0, 0, 0, 3}, {7, 0, 9, 0, 1}, {7, 0, 9, 0, 2}, {7, 0, 9, 0, 1}, {2, 0, 9, 0, 3}, {7, 0, 10, 0, 3}, {7, 0, 10, 0, 1}, {4, 0, 0, 0, 3}, {7, 0, 10, 0, 2},
+    };
+    static const uint32_t other_way[3] = {2, 1, 3}, backward[3] = {1, 3, 2};
+    static host_log log;
+    reedtangle_state want;
+    uint32_t list[3];
+    uint8_t bytes[8];
+    int good = 1, touched = 0;
+    size_t i;
+
+    reedtangle_start(&one, 1);
+    log.length = 0;
+    for (i = 0; i < sizeof rows / sizeof rows[0]; i++) {
+        put_row(bytes, &rows[i]);
+        good &= reply_is(ask(&one, &log, bytes, &touched), rows[i].want_code, rows[i].want_job);
+    }
+    tell(good && !touched, "adds: 20 replies as worked out by hand, and no refusal changed the state");
+    memset(&want, 0, sizeof want);
+    want.next = 4;
+    want.free = 0xfffffffc;
+    for (i = 0; i < 2; i++) {
+        want.numbers[i] = (uint32_t)i + 1;
+        want.sets[i * 16 + 4] = 3u << 9;    /* own altered: cells 9 and 10 */
+        want.sets[i * 16 + 8] = 1u << 9;    /* past used: cell 9, which 3 read */
+        want.sets[i * 16 + 12] = 1u << 10;  /* past altered: cell 10, which 3 added to */
+    }
+    tell(same(&one, &want), "what they leave: altered cells, none of them used, and no lead between those that add");
+    good = log.length == sizeof records && memcmp(log.bytes, records, sizeof records) == 0;
+    tell(good, "in the log an add is a record of its own kind: 11 records as worked out by hand");
+    good = verdict_is(reedtangle_list(log.bytes, log.length, list, 3), REEDTANGLE_GRANTED, 3);
+    tell(good && list[0] == 1 && list[1] == 2 && list[2] == 3, "the lister names 1, 2, 3");
+    good = verdict_is(reedtangle_check(log.bytes, log.length, other_way, 3), REEDTANGLE_GRANTED, 3);
+    tell(good && verdict_is(reedtangle_check(log.bytes, log.length, backward, 3), REEDTANGLE_BACKWARD, 6), "2, 1, 3 will do as well, and 1, 3, 2 turns the read round");
+    reedtangle_put_request(log.bytes + 8 * 10, REEDTANGLE_ABANDON, 0, 2);
+    good = verdict_is(reedtangle_list(log.bytes, log.length, list, 3), REEDTANGLE_TURN, 10);
+    tell(good, "an abandon after an add gets 13");
 }
 
 /* A state that no requests give: job 7 in all 32 slots, each row leading everywhere. It gets answers all the same. */
@@ -389,7 +442,7 @@ static uint32_t below(uint32_t n)
 /* The rule: few cells, jobs that are open, and now and then any job, a wrong cell or a wrong byte. */
 static void make_request(uint8_t *bytes, const host *h)
 {
-    static const uint8_t kinds[16] = {1, 1, 1, 2, 2, 2, 2, 2, 2, 3, 3, 3, 4, 5, 6, 6};
+    static const uint8_t kinds[16] = {1, 1, 1, 2, 2, 2, 2, 2, 3, 3, 7, 7, 4, 5, 6, 6};
     uint32_t any = below(20), cell = below(40) == 0 ? 250 + below(20) : below(24);
     uint32_t job = any == 0 || h->count == 0 ? h->first + below(h->opened + 2) : h->open[below(h->count)];
     reedtangle_put_request(bytes, kinds[below(16)], (uint16_t)cell, job);
@@ -428,6 +481,11 @@ static uint8_t answers[8 * MANY];
 static uint32_t order[REEDTANGLE_LOG_JOBS];
 static unsigned long codes[CODES];
 
+static int is_step(const uint8_t *record)
+{
+    return record[0] == REEDTANGLE_READ || record[0] == REEDTANGLE_WRITE || record[0] == REEDTANGLE_ADD;
+}
+
 /*
  * The slow judge: the place of the first record that must come after an earlier one whose job the order puts later, or the count of records. It
  * must where the two are conflicting steps, and where they are an end and an open. Every pair is looked at. The order has each kept job once.
@@ -447,8 +505,7 @@ static uint32_t turned(const host_log *log, const uint32_t *jobs, uint32_t count
     for (i = 0; i < records; i++) {
         for (j = 0; place[i] != UINT32_MAX && j < i; j++) {
             const uint8_t *later = log->bytes + 8 * i, *earlier = log->bytes + 8 * j;
-            int steps = (later[0] == REEDTANGLE_READ || later[0] == REEDTANGLE_WRITE) && (earlier[0] == REEDTANGLE_READ || earlier[0] == REEDTANGLE_WRITE);
-            int conflict = steps && later[2] == earlier[2] && (later[0] == REEDTANGLE_WRITE || earlier[0] == REEDTANGLE_WRITE);
+            int conflict = is_step(later) && is_step(earlier) && later[2] == earlier[2] && (later[0] != earlier[0] || later[0] == REEDTANGLE_WRITE);
             int in_time = earlier[0] == REEDTANGLE_END && later[0] == REEDTANGLE_OPEN;
             if (place[j] != UINT32_MAX && (conflict || in_time) && place[j] > place[i]) {
                 return i;
@@ -550,7 +607,7 @@ static void many(int round)
 int main(void)
 {
     /* the Rust tests make the same requests and expect the same; 6 is tried by hand */
-    static const unsigned long want[CODES] = {14034, 222, 275, 1366, 587, 345, 0, 3171};
+    static const unsigned long want[CODES] = {13460, 221, 275, 1177, 694, 454, 0, 3719};
     int round, all = 1;
     size_t i;
     printf("a state is %zu bytes\n", sizeof(reedtangle_state));
@@ -560,6 +617,7 @@ int main(void)
     ends_of_ranges();
     fields_by_hand();
     publishes();
+    adds();
     any_content();
     replay_by_hand();
     for (round = 1; round <= ROUNDS; round++) {

@@ -164,6 +164,17 @@ int main(void)
     }
     tell_of(good, "each byte at each place of a text, up to there", 2);
 
+    /* an add has no symbol: of the log B1 A1[5] B2 A2[5] the first is named, after what is wrong with the log and before the room */
+    static const uint8_t adds[4][8] = {{1, 0, 0, 0, 1}, {7, 0, 5, 0, 1}, {1, 0, 0, 0, 2}, {7, 0, 5, 0, 2}};
+    memcpy(log_bytes, adds, sizeof adds);
+    tell_of(export_is(32, ROOM, REEDTANGLE_TEXT_NO_ADD, 1) && export_is(32, 0, REEDTANGLE_TEXT_NO_ADD, 1), "a log with adds has no text, whatever the room", 4);
+    tell_of(export_is(8, ROOM, 0, 2) && export_is(31, ROOM, 11, 0), "the log before them has, and 11 goes first", 1);
+    log_bytes[8 * 3 + 1] = 1;
+    tell_of(export_is(32, 0, 12, 3), "12 past an add goes before it", 4);
+    reedtangle_put_request(log_bytes + 8 * 3, REEDTANGLE_ABANDON, 0, 1);
+    tell_of(export_is(32, ROOM, 13, 3), "an abandon after an add is out of turn", 4);
+    tell_of(import_is("B1 A1[5]", 8, ROOM, 26, 3) && import_is("B1 C1[5]", 8, ROOM, 26, 3), "and no letter says one", 2);
+
     tell_of(import_is("B1 B3 R3[0] W1[0] E1 B2 R2[1] E2 W3[1] E3", 41, ROOM, 13, 5), "h2 of the report, whose job 2 opens after job 3", 10);
     tell_of(import_is("B1 R1[256]", 10, ROOM, 12, 1) && import_is("B1 R1[65535]", 12, 0, 12, 1) && import_is("B1 R1[65536]", 12, ROOM, 26, 10), "cells 256, 65,535 and 65,536", 2);
     tell_of(import_is("B4294967295", 11, 8, 0, 8) && import_is("B4294967296", 11, 8, 26, 10), "jobs 4,294,967,295 and 4,294,967,296", 1);

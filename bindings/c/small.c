@@ -27,7 +27,7 @@ static uint32_t drawn(uint64_t *seed, uint32_t below)
     return (uint32_t)(*seed >> 33) % below;
 }
 
-/* Opens while fewer than `most` are open; then reads, writes, ends and publishes of open jobs. A state of its own, asked on the usual stack, tells which are. */
+/* Opens while fewer than `most` are open; then reads, writes, adds, ends and publishes of open jobs. A state of its own, asked on the usual stack, tells which are. */
 static void draw(uint64_t seed, uint32_t most)
 {
     static reedtangle_state state;
@@ -40,7 +40,7 @@ static void draw(uint64_t seed, uint32_t most)
         } else {
             at = drawn(&seed, held);
             job = jobs[at];
-            kind = what < 80 ? REEDTANGLE_READ : what < 94 ? REEDTANGLE_WRITE : what < 97 ? REEDTANGLE_END : REEDTANGLE_PUBLISH;
+            kind = what < 74 ? REEDTANGLE_READ : what < 84 ? REEDTANGLE_ADD : what < 94 ? REEDTANGLE_WRITE : what < 97 ? REEDTANGLE_END : REEDTANGLE_PUBLISH;
         }
         uint8_t *r = requests + 8 * i;
         r[0] = (uint8_t)kind;

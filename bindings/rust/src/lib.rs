@@ -4,10 +4,10 @@
 //! the repository; this crate lends them memory and takes their answers apart. It is plain Rust and not proved; `tests/night.rs` tries it.
 //! It has no dependencies, allocates nothing and keeps no globals.
 //!
-//! Two steps (reads and writes) conflict when their jobs differ, their cell is the same, and they are not both reads. A job is kept unless it
-//! was abandoned. An order of the kept jobs would do when any two conflicting steps come in it as they came in the log, and each job comes in
-//! it before all that were opened after its end; so the words are used below. That a job gets through is not promised: one that is refused may
-//! be refused for ever.
+//! Two steps (reads, writes and adds) conflict when their jobs differ, their cell is the same, and they are neither both reads nor both adds. A
+//! job is kept unless it was abandoned. An order of the kept jobs would do when any two conflicting steps come in it as they came in the log,
+//! and each job comes in it before all that were opened after its end; so the words are used below. That a job gets through is not promised: one
+//! that is refused may be refused for ever.
 //!
 //! Every function here is total: any request, any bytes and any list get exactly one answer, and a refusal changes nothing.
 //!
@@ -143,7 +143,7 @@ pub mod request {
         of(4, 0, job.0)
     }
 
-    /// Gives up a job that has written nothing: it counts no more.
+    /// Gives up a job that has written nothing and added to nothing: it counts no more.
     pub const fn abandon(job: Job) -> [u8; 8] {
         of(5, 0, job.0)
     }
@@ -152,15 +152,20 @@ pub mod request {
     pub const fn publish(job: Job, cell: u8) -> [u8; 8] {
         of(6, cell as u16, job.0)
     }
+
+    /// A raise of a cell that is a counter. It conflicts with reads and writes of other jobs, not with their adds.
+    pub const fn add(job: Job, cell: u8) -> [u8; 8] {
+        of(7, cell as u16, job.0)
+    }
 }
 
 /// The record of a request that was granted with this job. A log is such records, one after another, of all that was granted.
 ///
-/// An open has the number issued in its record, and only reads and writes have a cell. Not for a publish, which has two: [`records`] makes those of any
+/// An open has the number issued in its record, and only reads, writes and adds have a cell. Not for a publish, which has two: [`records`] makes those of any
 /// request.
 pub const fn record(request: [u8; 8], granted: Job) -> [u8; 8] {
     let cell = match request[0] {
-        2 | 3 => u16::from_le_bytes([request[2], request[3]]),
+        2 | 3 | 7 => u16::from_le_bytes([request[2], request[3]]),
         _ => 0,
     };
     request::of(request[0], cell, granted.0)
@@ -183,19 +188,19 @@ pub fn records(request: [u8; 8], granted: Job) -> impl Iterator<Item = u8> {
 /// Why a request was refused.
 #[derive(Clone, Copy, PartialEq, Eq, Hash, Debug)]
 pub enum Refusal {
-    /// 1: the kind is none of 1 to 6, or byte 1 is not 0.
+    /// 1: the kind is none of 1 to 7, or byte 1 is not 0.
     Malformed = 1,
-    /// 2: the cell of a read, write or publish is 256 or more.
+    /// 2: the cell of a read, write, add or publish is 256 or more.
     NoCell = 2,
     /// 3: the asking job is not open.
     NotOpen = 3,
-    /// 4: an abandon of a job that has written.
+    /// 4: an abandon of a job that has written or added.
     HasWritten = 4,
     /// 5: an open while 32 jobs are open.
     Full = 5,
     /// 6: an open after job number 4,294,967,295 was issued.
     Spent = 6,
-    /// 7: with this read, or this write, a publish's too, no order of the jobs would do.
+    /// 7: with this read, add, or write, a publish's too, no order of the jobs would do.
     Circle = 7,
 }
 
@@ -227,7 +232,7 @@ impl fmt::Display for Refusal {
             Refusal::Malformed => "not a request",
             Refusal::NoCell => "no such cell",
             Refusal::NotOpen => "the job is not open",
-            Refusal::HasWritten => "the job has written",
+            Refusal::HasWritten => "the job has written or added",
             Refusal::Full => "32 jobs are open",
             Refusal::Spent => "the last job number was issued",
             Refusal::Circle => "no order of the jobs would do",
@@ -249,7 +254,8 @@ pub struct State {
     pub numbers: [u32; 32],
     /// Bit j of the i-th: the job in slot i leads to the one in slot j.
     pub leads: [u32; 32],
-    /// Sixteen words a slot, four a cell set: own reads, own writes, past reads, past writes.
+    /// Sixteen words a slot, four a cell set: own used, own altered, past used, past altered. Used is read or written, altered is written or
+    /// added to.
     pub sets: [u64; 512],
 }
 
@@ -306,7 +312,7 @@ impl Arbiter {
     /// One request, any eight bytes. A grant has the job: the number issued for an open, else the asking job. A refusal changes no bit of
     /// the state.
     ///
-    /// From a fresh state each answer is the one that the whole history gives: a read or write of an open job on a real cell gets
+    /// From a fresh state each answer is the one that the whole history gives: a read, write or add of an open job on a real cell gets
     /// [`Refusal::Circle`] exactly when no order of the jobs would do with it. A publish is granted exactly when its write is, and leaves the
     /// state that the write and the end of the job leave.
     #[inline]
@@ -359,6 +365,11 @@ impl Arbiter {
     /// Asks to write a cell and end the job, in one request.
     pub fn publish(&mut self, job: Job, cell: u8) -> Result<Job, Refusal> {
         self.ask(request::publish(job, cell))
+    }
+
+    /// Asks to add to a cell.
+    pub fn add(&mut self, job: Job, cell: u8) -> Result<Job, Refusal> {
+        self.ask(request::add(job, cell))
     }
 }
 
@@ -587,7 +598,7 @@ pub enum Fault {
     Length,
     /// 12: a record with a wrong kind, byte 1 or cell.
     Form(usize),
-    /// 13: an open whose number is not above those before it; a job that is not open there; an abandon after a write.
+    /// 13: an open whose number is not above those before it; a job that is not open there; an abandon after a write or an add.
     Turn(usize),
     /// 14: an open with 512 opens before it.
     TooMany(usize),
@@ -730,7 +741,8 @@ impl Error for NoList {}
 ///
 /// It is accepted exactly when the log has no fault, the order has each kept job once and nothing else, no conflicting pair of steps runs
 /// backward, and no job comes before one that had ended when it was opened. Running the kept jobs one at a time in that order then shows each
-/// of their reads the same value, and leaves each cell the same, as the log did. Takes about 28,000 bytes of stack.
+/// of their reads the same last write and the same adds since, in any order, and leaves each cell so, as the log did. Takes about 28,000 bytes of
+/// stack.
 #[inline]
 pub fn check_order(log: &[u8], order: &[u32]) -> Result<usize, BadOrder> {
     // Two slices that are only read.

@@ -18,7 +18,7 @@ use lib.ListN.{length, getD, drop}
 use lib.Seq.{getD-drop}
 use borrow.Author.Tests.{ne-eqb}
 use Rattle.graph.specs.Decide.{eq-test, answer, test-false}
-use Rattle.history.specs.Events.{Kind, read, write}
+use Rattle.history.specs.Events.{Kind, read, write, add}
 use Rattle.history.specs.Formats.{records, request-of}
 use Rattle.history.specs.Replies.{cells, Request, Reply, Want, a-step, want, Facts, tests, _gives_, first-of, code-of, reply-of}
 use Rattle.held.specs.Held.{Held, slot-of, stepped-at, facts, with-slot, moved, answer-to, after, answers, after-all}
@@ -26,7 +26,7 @@ use Rattle.history.specs.RecordLaws.{record-there, record-none, drop-record, dr
 use Rattle.slots.specs.Lent.{lent, numbered, Steps}
 use Rattle.slots.specs.declared.Moved.{Moved}
 use Rattle.batch.specs.Batch.{Verdict, verdict, taken, item-code, codes, first-refused, ill-sized, judged, batch, batch-leaves, packed}
-use Rattle.batch.specs.Laws.{gets, IllSized, ill-test, ill-judged, judged-small}
+use Rattle.batch.specs.Laws.{Taken, taken-test, gets, IllSized, ill-test, ill-judged, judged-small}
 use Rattle.batch.specs.Leaves.{Refused, Takes, Runs, Batches}
 use Rattle.batch.specs.Leaves as leaves
 use Rattle.batch.specs.declared.Batched.{Batched}
@@ -43,9 +43,9 @@ item-read b at = simp (getD-drop, add-zero)
 
 -- ---- one item
 
--- the two kinds, by their range
-two-or-three : (k : ℕ) → 2 ≤ k → k < 4 → (k ≡ 2) ⊎ (k ≡ 3)
-two-or-three k p q = ⊎-elim inl (λ f. inr (let g : (k ≡ 2) → ⊥ = f in omega arith)) (answer (eq-test k 2))
+-- the first two kinds, by their range
+pub two-or-three : (q : Request) → 2 ≤ q .kind → q .kind < 4 → Taken q
+two-or-three q a b = ⊎-elim inl (λ f. inr (inl (let g : (q .kind ≡ 2) → ⊥ = f in omega arith))) (answer (eq-test (q .kind) 2))
 
 -- such a request wants a step, and a batch takes it
 record IsStep (k : ℕ) : Type 0 where
@@ -53,11 +53,11 @@ record IsStep (k : ℕ) : Type 0 where
   wants : want k ≡ a-step kind
   is-taken : taken k ≡ true
 
-is-step : (k : ℕ) → 2 ≤ k → k < 4 → IsStep k
+is-step : (k : ℕ) → (k ≡ 2) ⊎ ((k ≡ 3) ⊎ (k ≡ 7)) → IsStep k
 unfolding want taken
-is-step k p q =
-    ⊎-elim (λ e. record { kind = read; wants = ap want e; is-taken = ap taken e }) (λ e. record { kind = write; wants = ap want e; is-taken = ap taken e })
-    (two-or-three k p q)
+is-step k (inl e) = record { kind = read; wants = ap want e; is-taken = ap taken e }
+is-step k (inr (inl e)) = record { kind = write; wants = ap want e; is-taken = ap taken e }
+is-step k (inr (inr e)) = record { kind = add; wants = ap want e; is-taken = ap taken e }
 
 -- the code of a request that wants w
 abbrev code-for : Facts → Request → Want → ℕ
@@ -117,10 +117,10 @@ after-again h q = go (eqb (code-of (facts h) q) 0) (moved h (want (q .kind)) (q 
     go true g = refl
     go false g = refl
 
-pub takes-step : {h : Held} (q : Request) {m : Moved} {numbers leads sets : List ℕ} {code : ℕ} → 2 ≤ q .kind → q .kind < 4 → Steps h q m numbers leads sets
+pub takes-step : {h : Held} (q : Request) {m : Moved} {numbers leads sets : List ℕ} {code : ℕ} → Taken q → Steps h q m numbers leads sets
     → code ≡ numbered (m .answer) .code → Takes h q code numbers leads sets
 unfolding answer-to reply-of
-takes-step {h} q {m} {numbers} {leads} {sets} {code} p l s ec =
+takes-step {h} q {m} {numbers} {leads} {sets} {code} t s ec =
     record {
       code = by-itself ∙ sym (taken-code q (answer-to h q) (st .is-taken));
       known = subst (λ (c : ℕ). (c ≡ 0) ⊎ Refused c) (sym by-itself) (step-codes (facts h) q (st .kind) (st .wants));
@@ -129,7 +129,7 @@ takes-step {h} q {m} {numbers} {leads} {sets} {code} p l s ec =
     }
   where
     st : IsStep (q .kind)
-    st = is-step (q .kind) p l
+    st = is-step (q .kind) t
 
     still : Stays h (after h q)
     still = step-stays h q (st .kind) (st .wants)
@@ -144,12 +144,9 @@ takes-step {h} q {m} {numbers} {leads} {sets} {code} p l s ec =
     free = sym (still .free) ∙ sym (ap (λ (g : Held). g .free) (s .left))
 
 -- an item of any other kind gets 1, and nothing moves
-pub takes-none : {h : Held} (q : Request) → (2 ≤ q .kind → q .kind < 4 → ⊥) → Takes h q 1 (h .numbers) (h .leads) (h .sets)
-unfolding item-code taken
-takes-none {h} q f =
-    let two : q .kind ≡ 2 → ⊥ = λ e. f (omega arith) (omega arith) in
-    let three : q .kind ≡ 3 → ⊥ = λ e. f (omega arith) (omega arith) in
-    record { code = rw (ne-eqb (q .kind) 2 two, ne-eqb (q .kind) 3 three); known = inr (inl refl); left = refl; same = refl }
+pub takes-none : {h : Held} (q : Request) → (Taken q → ⊥) → Takes h q 1 (h .numbers) (h .leads) (h .sets)
+unfolding item-code
+takes-none {h} q f = record { code = sym (ap (λ (b : Bool). cond b (answer-to h q .code) 1) (test-false (taken-test q) f)); known = inr (inl refl); left = refl; same = refl }
 
 -- the refusals by their codes, the last from what is left
 pub seven : (c : ℕ) → Refused c → (c ≡ 1 → ⊥) → (c ≡ 2 → ⊥) → (c ≡ 3 → ⊥) → c ≡ 7

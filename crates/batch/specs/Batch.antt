@@ -1,7 +1,7 @@
 -- A batch of requests: what it gets, from what its items would get one by one, and the state that it leaves.
 --
--- The items are the requests that the bytes are. Each would get a reply by itself, one after the other, the granted ones moving the state. A batch takes reads and
--- writes alone, so an item of another kind counts as one that gets 1. The first item that is refused gives the batch its code and its place, from 0, and the
+-- The items are the requests that the bytes are. Each would get a reply by itself, one after the other, the granted ones moving the state. A batch takes reads,
+-- writes and adds alone, so an item of another kind counts as one that gets 1. The first item that is refused gives the batch its code and its place, from 0, and the
 -- state stays; where none is, the batch gets 0 and the count of its items, and leaves the state that they leave. Before all, 25 and place 0 where the bytes are not
 -- whole requests or are more than 64 of them.
 --
@@ -33,9 +33,9 @@ request-bytes = 8
 abbrev pub most-bytes : ℕ
 most-bytes = 512
 
--- the kinds that a batch takes: read and write
+-- the kinds that a batch takes: read, write and add
 unfoldable pub taken : ℕ → Bool
-taken kind = eqb kind 2 || eqb kind 3
+taken kind = eqb kind 2 || (eqb kind 3 || eqb kind 7)
 
 -- the code of an item, from the reply that it would get by itself
 unfoldable pub item-code : Request → Reply → ℕ

@@ -10,7 +10,7 @@ use lib.ListN.{replicate}
 use Rattle.graph.specs.Lists.{_∈_}
 use Rattle.history.specs.Formats.{bytes-of}
 use Rattle.history.specs.Replies.{Request, Reply, history-of, replies-from}
-use Rattle.history.specs.Cases.{open-one, reads, writes, end, abandon, publishes, granted, refused, Exchange, _gets_, computed, rows}
+use Rattle.history.specs.Cases.{open-one, reads, writes, adds, end, abandon, publishes, granted, refused, Exchange, _gets_, computed, rows}
 use Rattle.held.specs.Held.{fresh-held, answers, after-all}
 use Rattle.held.specs.Cases.{held-answers, request}
 use Rattle.batch.specs.Batch.{Verdict, verdict, taken, item-code, ill-sized, judged, batch, batch-leaves, full-batch, full-leaves}
@@ -70,6 +70,9 @@ table =
     ∷ row two (bytes (reads 1 7 ∷ writes 2 6 ∷ [])) 0 2 (abandon 2 gets refused 4 ∷ [])
     -- refused at place 1: 2 would come before 1 too. The write of 2 does not stay, and 2 can be abandoned
     ∷ row two (bytes (writes 2 6 ∷ reads 1 6 ∷ [])) 7 1 (abandon 2 gets granted 2 ∷ [])
+    -- adds of one cell do not clash, and so 1 may add after 2; they stay, so that 2 cannot be abandoned. A read of it clashes with the add of 2, and nothing stays
+    ∷ row two (bytes (adds 2 6 ∷ adds 1 6 ∷ [])) 0 2 (abandon 2 gets refused 4 ∷ [])
+    ∷ row two (bytes (adds 2 6 ∷ reads 1 6 ∷ [])) 7 1 (abandon 2 gets granted 2 ∷ [])
     -- an item is judged on what the items before it left: each of the four would be granted on the state before the batch. Nothing of the first three stays
     ∷ row (open-one ∷ open-one ∷ []) (bytes (reads 1 5 ∷ writes 2 5 ∷ writes 2 6 ∷ reads 1 6 ∷ [])) 7 3 (reads 1 6 gets granted 1 ∷ abandon 2 gets granted 2 ∷ [])
     -- another kind gets 1 at its turn, though by itself it would be granted: an open, and no number is issued; an end, and the job stays open; an abandon; a publish
@@ -77,6 +80,8 @@ table =
     ∷ row two (bytes (end 1 ∷ reads 9 7 ∷ [])) 1 0 (reads 1 7 gets granted 1 ∷ [])
     ∷ row two (bytes (reads 2 7 ∷ abandon 2 ∷ [])) 1 1 (abandon 2 gets granted 2 ∷ [])
     ∷ row two (bytes (reads 2 7 ∷ publishes 2 6 ∷ [])) 1 1 (publishes 2 6 gets granted 2 ∷ [])
+    -- and so does a kind that there is not
+    ∷ row two (bytes (adds 2 7 ∷ request 8 0 6 2 ∷ [])) 1 1 (abandon 2 gets granted 2 ∷ [])
     -- but a refusal before it comes first, and so of any two; at one item byte 1 comes before 2, and 2 before 3
     ∷ row two (bytes (reads 9 7 ∷ open-one ∷ [])) 3 0 (open-one gets granted 3 ∷ [])
     ∷ row two (bytes (writes 2 256 ∷ reads 9 7 ∷ [])) 2 0 (abandon 2 gets granted 2 ∷ [])
@@ -92,4 +97,4 @@ table =
 -- every batch of the table gets what is written, and leaves the state that is written, by the state and by the full history
 pub batch-cases : (t : Tried) → t ∈ table → outcome t ≡ expected t
 unfolding outcome
-batch-cases t = rows outcome expected (refl, (refl, (refl, (refl, (refl, (refl, (refl, (refl, (refl, (refl, (refl, (refl, (refl, (refl, (refl, (refl, (refl, tt)))))))))))))))))
+batch-cases t = rows outcome expected (refl, (refl, (refl, (refl, (refl, (refl, (refl, (refl, (refl, (refl, (refl, (refl, (refl, (refl, (refl, (refl, (refl, (refl, (refl, (refl, tt))))))))))))))))))))

@@ -49,11 +49,11 @@ unfolding ill-sized
 ill-test bytes = or-test (not-test (eq-test (length bytes % 8) 0)) (lt-test 512 (length bytes))
 
 abbrev pub Taken : Request → Type 0
-Taken r = (r .kind ≡ 2) ⊎ (r .kind ≡ 3)
+Taken r = (r .kind ≡ 2) ⊎ ((r .kind ≡ 3) ⊎ (r .kind ≡ 7))
 
 pub taken-test : (r : Request) → Decides (taken (r .kind)) (Taken r)
 unfolding taken
-taken-test r = or-test (eq-test (r .kind) 2) (eq-test (r .kind) 3)
+taken-test r = or-test (eq-test (r .kind) 2) (or-test (eq-test (r .kind) 3) (eq-test (r .kind) 7))
 
 -- an item gets 0 exactly when it is taken and gets 0 by itself
 item-zero : (r : Request) (a : Reply) → item-code r a ≡ 0 → Taken r × (a .code ≡ 0)

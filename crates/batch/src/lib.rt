@@ -1,4 +1,4 @@
-// A batch: up to 64 reads and writes in one call, granted all or none. Each item is a step of the arbiter, in place. A step of these kinds moves nothing but leads and
+// A batch: up to 64 reads, writes and adds in one call, granted all or none. Each item is a step of the arbiter, in place. A step of these kinds moves nothing but leads and
 // sets; as they were before the first is kept on the stack, and put back where a later item is refused.
 ghost use mathlib.Core.Path.{_≡_};
 ghost use Prim.Native.Nat.{_+_, _≤_};
@@ -66,7 +66,7 @@ fn item_at(requests: &[u8], at: usize) -> [u8; 8]
     ]
 }
 
-// One item: the code that it gets, 0 for a grant. A batch takes no other kinds than 2 and 3.
+// One item: the code that it gets, 0 for a grant. A batch takes no other kinds than 2, 3 and 7.
 fn step_item(
     next: u64,
     free: u32,
@@ -79,7 +79,7 @@ fn step_item(
 {
     let kind = item[0];
     match kind {
-        2 | 3 => {
+        2 | 3 | 7 => {
             let m = slots::step_in_place(next, free, numbers, leads, sets, item);
             let answer = m.answer;
             answer.code()

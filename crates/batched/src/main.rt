@@ -2,7 +2,7 @@
 //
 // A batch is given to the proved code on one copy of a state, and its requests one by one to the arbiter on another; code, place and the whole state after it are
 // compared. The states come from single requests between the batches, and some are of any content. A line for each shape of batches has how many there were, how many got
-// each code, how many were refused after an item was granted, and how many differed. What is proved here is that the program is safe and ends.
+// each code, how many were refused after an item was granted, how many adds the granted ones had, and how many differed. What is proved here is that the program is safe and ends.
 //
 // A request is one number, its eight bytes with the low byte first.
 use arbiter::JobNumber;
@@ -52,7 +52,7 @@ fn bytes_of(request: u64) -> [u8; 8] {
     ]
 }
 
-// The shape of batches is one number. Its bytes: the cells in use, the jobs in use, one in how many steps is a write, one in how many items a bad one, one in how many
+// The shape of batches is one number. Its bytes: the cells in use, the jobs in use, one in how many steps is a write or an add, one in how many items a bad one, one in how many
 // batches is of one job, and whether the states are of any content.
 const CELLS: u64 = 0;
 
@@ -83,20 +83,33 @@ fn job_for(shape: u64, r: u64, numbers: &[u32; 32]) -> u64 {
     number_in(numbers, pick(r, 0, 0, of(shape, JOBS)))
 }
 
+// The kinds that a batch takes: a read, a write, an add.
+fn kind_of(k: u64) -> u64 {
+    match k {
+        0 => 2,
+        1 => 3,
+        _ => 7,
+    }
+}
+
+fn kind_for(shape: u64, r: u64) -> u64 {
+    if one_in(r, 2, of(shape, WRITES)) {
+        return kind_of(pick(r, 5, 1, 2));
+    }
+    2
+}
+
 fn step(shape: u64, r: u64, job: u64) -> u64 {
     let cell = pick(r, 1, 0, of(shape, CELLS));
-    if one_in(r, 2, of(shape, WRITES)) {
-        return request(3, 0, cell, job);
-    }
-    request(2, 0, cell, job)
+    request(kind_for(shape, r), 0, cell, job)
 }
 
 // An item that is mostly refused: any kind, byte 1 not zero, a cell above 255, a job that was perhaps never issued.
 fn bad_item(r: u64, job: u64) -> u64 {
     let way = pick(r, 3, 0, 4);
-    let kind = pick(r, 4, 2, 2);
+    let kind = kind_of(pick(r, 4, 0, 3));
     match way {
-        0 => request(pick(r, 4, 0, 8), 0, 7, job),
+        0 => request(pick(r, 4, 0, 10), 0, 7, job),
         1 => request(kind, pick(r, 5, 1, 255), 7, job),
         2 => request(kind, 0, pick(r, 5, 256, 900), job),
         _ => request(kind, 0, 7, pick(r, 5, job, 40)),
@@ -231,7 +244,7 @@ fn ask(state: State, asked: [u8; 8]) -> Told {
 // An item by itself.
 fn ask_item(state: State, asked: [u8; 8]) -> Told {
     let kind = asked[0];
-    if kind != 2 && kind != 3 {
+    if kind != 2 && kind != 3 && kind != 7 {
         return tell(1, 0, state);
     }
     ask(state, asked)
@@ -350,6 +363,8 @@ const LATER: usize = 28;
 
 const DIFFER: usize = 29;
 
+const ADDS: usize = 30;
+
 fn count(counts: &Counts, i: usize) -> u64 {
     counts[i % 32]
 }
@@ -365,6 +380,29 @@ fn bump_if(counts: &mut Counts, i: usize, so: bool) {
     }
 }
 
+fn is_add(item: [u8; 8]) -> u64 {
+    (item[0] == 7) as u64
+}
+
+// How many items are adds?
+fn adds_in(bytes: &[u8]) -> u64 {
+    let mut adds: u64 = 0;
+    let mut i: usize = 0;
+    while i < 64 {
+        adds = std::num::wrapping_add_u64(adds, is_add(item_at(bytes, i)));
+        i += 1;
+    }
+    adds
+}
+
+// The same of a batch that is granted.
+fn adds_granted(code: u32, bytes: &[u8]) -> u64 {
+    if code != 0 {
+        return 0;
+    }
+    adds_in(bytes)
+}
+
 // A batch to both, and the state that the code left.
 fn try_batch(before: State, bytes: &[u8], counts: &mut Counts) -> State {
     let theirs = batched(before, bytes);
@@ -373,6 +411,7 @@ fn try_batch(before: State, bytes: &[u8], counts: &mut Counts) -> State {
     bump(counts, ITEMS, (bytes.len() / 8) as u64);
     bump(counts, ours.code as usize, 1);
     bump_if(counts, LATER, ours.code != 0 && ours.place != 0);
+    bump(counts, ADDS, adds_granted(ours.code, bytes));
     bump_if(counts, DIFFER, !same(ours, theirs));
     theirs.state
 }
@@ -535,6 +574,8 @@ fn say_counts(counts: &Counts) {
     say_count(counts, 25);
     say(b"; refused past place 0:");
     say_count(counts, LATER);
+    say(b"; adds granted:");
+    say_count(counts, ADDS);
     say(b"; differ:");
     say_count(counts, DIFFER);
     say(b"\n");

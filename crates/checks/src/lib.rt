@@ -140,22 +140,28 @@ fn higher(a: usize, b: usize) -> usize
 }
 
 // Has a row that a step at this row looks at seen a place above that of its job?
-fn stands_low(seen: &[usize; 514], row: usize, place: usize) -> bool
-    requires { ⌜ row < 514 ⌝ }
+fn stands_low(seen: &[usize; 770], row: usize, place: usize) -> bool
+    requires { ⌜ row < 770 ⌝ }
     ensures { λ r. ⌜ r ≡ stands-low (now (seen .entry)) row place ⌝ }
 {
     let all = &seen[..];
-    if row < 256 {
-        return place < all[row + 256];
+    if 768 <= row {
+        if row != 768 {
+            return false;
+        }
+        return place < all[769];
     }
-    if row < 512 {
-        if place < all[row - 256] {
+    let cell = row % 256;
+    if 256 <= row {
+        if place < all[cell] {
             return true;
         }
-        return place < all[row];
     }
-    if row == 512 {
-        return place < all[513];
+    if place < all[cell + 256] {
+        return true;
+    }
+    if row < 512 {
+        return place < all[cell + 512];
     }
     false
 }
@@ -169,13 +175,13 @@ fn first_turned(told: &[u32; 4096], n: usize, states: &[u8; 512], placed: &[usiz
     let steps = &told[..];
     let stand = &states[..];
     let places = &placed[..];
-    let mut seen: [usize; 514] = [0; 514];
+    let mut seen: [usize; 770] = [0; 770];
     let mut i: usize = 0;
     while i < n {
         let step = steps[i];
         if step != 0 {
-            let job = ((step - 1) / 514 % 512) as usize;
-            let row = ((step - 1) % 514) as usize;
+            let job = ((step - 1) / 770 % 512) as usize;
+            let row = ((step - 1) % 770) as usize;
             let place = places[job];
             if stand[job] != 4 {
                 if stands_low(&seen, row, place) {

@@ -1,22 +1,26 @@
 -- The answer by its ways out, and what an answer is numbered, whatever stands in the lent bytes.
 -- Assumes nothing.
 use mathlib.Core.Path.{_≡_, refl, sym, ap, ap₂, _∙_}
+use mathlib.Core.Bool.{Bool, cond}
 use mathlib.Core.List.{List, [], _++_}
 use Prim.Native.Nat.{ℕ, _≤_, _<_}
 use native.Mathlib.Omega.{arith}
 use lib.ListN.{length, take, drop, take-append-drop}
 use lib.Seq.{length-take-le}
+use Rattle.graph.specs.Decide.{lt-test, test-true}
 use Rattle.text.specs.Lays.{Lays}
 use Rattle.text.specs.Puts.{lays-puts}
 use Rattle.history.specs.Events.{History}
 use Rattle.verdicts.specs.Logs.{Reading, faulty, events, read-log}
 use Rattle.blocks.specs.Blocks.{Filled, refused, filled}
 use Rattle.blocks.specs.RunLaws.{fills, fills-not}
-use Rattle.notation.specs.Notation.{text-of, without-abandoned}
-use Rattle.notation.specs.Answers.{export-of, export}
+use Rattle.notation.specs.Notation.{text-of, without-abandoned, NoAdd}
+use Rattle.notation.specs.Answers.{before-adds, exported, export-of, export}
+use Rattle.notation.specs.FirstAddLaws.{Found, none, first, found}
+use Rattle.notation.specs.TextLaws.{exported-none}
 use Rattle.exporter.specs.Exporter.{answered}
 use Rattle.exporter.specs.declared.Exported.{Exported}
-use Rattle.exporter.specs.declared.Exported.the-variants.{Done, Length, Form, Turn, TooMany, NoRoom}
+use Rattle.exporter.specs.declared.Exported.the-variants.{Done, Length, Form, Turn, TooMany, Add, NoRoom}
 
 -- ---- the ways out
 
@@ -24,9 +28,26 @@ pub export-faulty : (log lent : List ℕ) {c p : ℕ} → read-log log ≡ fault
 unfolding export
 export-faulty log lent e = ap (λ (g : Reading). export-of g lent) e
 
-pub export-read : (log lent : List ℕ) (h : History) → read-log log ≡ events h → export log lent ≡ filled (text-of (without-abandoned h)) lent
+pub export-read : (log lent : List ℕ) (h : History) → read-log log ≡ events h → export log lent ≡ exported h (before-adds h) lent
 unfolding export
 export-read log lent h e = ap (λ (g : Reading). export-of g lent) e
+
+-- the first add of n events stands at p, or p is n and there is none
+module _ (h : History) (lent : List ℕ) {p n : ℕ} (at : p ≡ before-adds h) (all : n ≡ length h) where
+  pub with-add : p < n → refused 27 p lent ≡ exported h (before-adds h) lent
+  with-add l =
+      ap (λ (x : ℕ). refused 27 x lent) at
+      ∙ sym (ap (λ (b : Bool). cond b (refused 27 (before-adds h) lent) (filled (text-of (without-abandoned h)) lent)) (test-true (lt-test (before-adds h) (length h)) (omega arith)))
+
+  pub without-add : n ≤ p → NoAdd h
+  without-add l = go (found h)
+    where
+      go : Found h → NoAdd h
+      go (none f e) = f
+      go (first a q) = absurd (omega arith)
+
+  pub as-text : n ≤ p → filled (text-of (without-abandoned h)) lent ≡ exported h (before-adds h) lent
+  as-text l = sym (exported-none h lent (without-add l))
 
 -- no room for the first n bytes; and where there is room, they are copied
 module _ (said lent : List ℕ) (n : ℕ) (long : n ≤ length said) where
@@ -56,6 +77,7 @@ answered-as Length lent = record { code = refl; place = refl; bytes = refl }
 answered-as (Form p) lent = record { code = refl; place = refl; bytes = refl }
 answered-as (Turn p) lent = record { code = refl; place = refl; bytes = refl }
 answered-as (TooMany p) lent = record { code = refl; place = refl; bytes = refl }
+answered-as (Add p) lent = record { code = refl; place = refl; bytes = refl }
 answered-as NoRoom lent = record { code = refl; place = refl; bytes = refl }
 
 -- its code and its place make it again

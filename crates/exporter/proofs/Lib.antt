@@ -1,4 +1,5 @@
 pub mod PutLaws
+pub mod AddLaws
 pub mod TextLaws
 pub mod AnswerLaws
 pub mod OneAnswer

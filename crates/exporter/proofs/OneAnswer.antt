@@ -15,7 +15,7 @@ use Rattle.reader.proofs.OneAnswer.{One}
 use Rattle.blocks.specs.Blocks.{Filled}
 use Rattle.exporter.specs.Exporter.{answered}
 use Rattle.exporter.specs.declared.Exported.{Exported}
-use Rattle.exporter.specs.declared.Exported.the-variants.{Done, Length, Form, Turn, TooMany, NoRoom}
+use Rattle.exporter.specs.declared.Exported.the-variants.{Done, Length, Form, Turn, TooMany, Add, NoRoom}
 use Rattle.exporter.proofs.AnswerLaws.{answered-as}
 use Rattle.exporter.proofs.Exported.code.Kinds as code-kinds
 use Rattle.exporter.proofs.Exported.code.Reads as code-reads
@@ -37,7 +37,7 @@ result-of : Filled → Exported
 result-of a =
     let c = a .code in
     cond (eqb c 0) (Done (a .place))
-    (cond (eqb c 11) Length (cond (eqb c 12) (Form (a .place)) (cond (eqb c 13) (Turn (a .place)) (cond (eqb c 14) (TooMany (a .place)) NoRoom))))
+    (cond (eqb c 11) Length (cond (eqb c 12) (Form (a .place)) (cond (eqb c 13) (Turn (a .place)) (cond (eqb c 14) (TooMany (a .place)) (cond (eqb c 27) (Add (a .place)) NoRoom)))))
 
 answer-back : (e : Exported) (lent : List ℕ) → result-of (answered e lent) ≡ e
 unfolding result-of
@@ -46,6 +46,7 @@ answer-back Length lent = refl
 answer-back (Form p) lent = refl
 answer-back (Turn p) lent = refl
 answer-back (TooMany p) lent = refl
+answer-back (Add p) lent = refl
 answer-back NoRoom lent = refl
 
 -- what it returns, and the lent bytes at exit, its second parameter

@@ -67,13 +67,13 @@ module _ (row j : ℕ) where
   unfolding event-at
   writes-at m l = rw (le-ltb row 256 m, lt-ltb row 512 l)
 
-  pub opens-at : row ≡ 512 → event-at row j ≡ opens j
+  pub opens-at : row ≡ 768 → event-at row j ≡ opens j
   unfolding event-at
-  opens-at e = rw (le-ltb row 256 (omega arith), le-ltb row 512 (omega arith), eq-eqb row 512 e)
+  opens-at e = rw (le-ltb row 256 (omega arith), le-ltb row 512 (omega arith), eq-eqb row 768 e)
 
-  pub ends-at : 512 < row → event-at row j ≡ ends j
+  pub ends-at : 512 ≤ row → (row ≡ 768 → ⊥) → event-at row j ≡ ends j
   unfolding event-at
-  ends-at l = rw (le-ltb row 256 (omega arith), le-ltb row 512 (omega arith), ne-eqb row 512 (λ (e : row ≡ 512). omega arith))
+  ends-at l f = rw (le-ltb row 256 (omega arith), le-ltb row 512 l, ne-eqb row 768 f)
 
 -- ---- a record
 
@@ -85,7 +85,7 @@ gap-later at f = rw (ne-eqb at 0 f)
 
 module _ (numbers states : List ℕ) (x at : ℕ) where
   abbrev slot : ℕ
-  slot = (x - 1) / 514 % 512
+  slot = (x - 1) / 770 % 512
 
   -- an abandon; a record of an abandoned job; another
   pub told-none : x ≡ 0 → symbol-told numbers states x at ≡ []
@@ -96,6 +96,6 @@ module _ (numbers states : List ℕ) (x at : ℕ) where
   unfolding symbol-told
   told-gone f e = rw (ne-eqb x 0 f, eq-eqb (getD states slot 0) 4 e)
 
-  pub told-kept : (x ≡ 0 → ⊥) → (getD states slot 0 ≡ 4 → ⊥) → symbol-told numbers states x at ≡ gap at ++ symbol (event-at ((x - 1) % 514) (getD numbers slot 0))
+  pub told-kept : (x ≡ 0 → ⊥) → (getD states slot 0 ≡ 4 → ⊥) → symbol-told numbers states x at ≡ gap at ++ symbol (event-at ((x - 1) % 770) (getD numbers slot 0))
   unfolding symbol-told
   told-kept f g = rw (ne-eqb x 0 f, ne-eqb (getD states slot 0) 4 g)

@@ -1,6 +1,6 @@
-// The export of a log as a text in the notation of Casanova and Bernstein 1981, with the abandoned jobs left out.
+// The export of a log as a text in the notation of Casanova and Bernstein 1981, with the abandoned jobs left out. A log that holds an add is refused: the notation has none.
 ghost use mathlib.Core.Path.{_≡_};
-ghost use mathlib.Core.List.{[], _∷_, _++_};
+ghost use mathlib.Core.List.{List, [], _∷_, _++_};
 ghost use Prim.Native.Nat.{ℕ, _+_, _*_, _≤_, _<_};
 ghost use lib.ListN.{length, take};
 ghost use Rattle.text.specs.Decimal.{decimal};
@@ -8,9 +8,9 @@ ghost use Rattle.text.specs.Puts.{Puts};
 ghost use Rattle.history.specs.Events.{History};
 ghost use Rattle.blocks.specs.Blocks.{filled};
 ghost use Rattle.tallies.specs.Jobs.{Taken};
-ghost use Rattle.notation.specs.Notation.{symbol, text-of, without-abandoned};
-ghost use Rattle.notation.specs.Answers.{export};
-ghost use Rattle.exporter.specs.Exporter.{answered, event-at, gap, symbol-told, PutsMost};
+ghost use Rattle.notation.specs.Notation.{symbol, text-of, without-abandoned, NoAdd};
+ghost use Rattle.notation.specs.Answers.{before-adds, exported, export};
+ghost use Rattle.exporter.specs.Exporter.{answered, add-told, event-at, gap, symbol-told, PutsMost};
 use logs::Read;
 
 // What the exporter answers: the count of bytes of the text, or one of the refusals with its place.
@@ -20,6 +20,7 @@ pub enum Exported {
     Form(usize),
     Turn(usize),
     TooMany(usize),
+    Add(usize),
     NoRoom,
 }
 
@@ -34,6 +35,7 @@ impl Exported {
             Exported::Form(_) => 12,
             Exported::Turn(_) => 13,
             Exported::TooMany(_) => 14,
+            Exported::Add(_) => 27,
             Exported::NoRoom => 24,
         }
     }
@@ -48,6 +50,7 @@ impl Exported {
             Exported::Form(p) => p,
             Exported::Turn(p) => p,
             Exported::TooMany(p) => p,
+            Exported::Add(p) => p,
             Exported::NoRoom => 0,
         }
     }
@@ -84,9 +87,9 @@ fn put_step(letter: u8, job: u32, cell: u32, out: &mut [u8], at: usize) -> usize
     put_cell(cell, out, end)
 }
 
-// The symbol of a row: the reads of cells 0 to 255, then the writes of those, then the opens (512) and the ends (513).
+// The symbol of a row: the reads of cells 0 to 255, then the writes of those, then, past the rows of adds, which never come here, the opens (768) and the ends (769).
 fn put_symbol(row: u32, job: u32, out: &mut [u8], at: usize) -> usize
-    requires { ⌜ (at + 16 ≤ length (now out)) × (row < 514) ⌝ }
+    requires { ⌜ (at + 16 ≤ length (now out)) × (row < 770) ⌝ }
     ensures { λ r. ⌜ PutsMost at 16 (symbol (event-at row job)) (now (out .entry)) (now (out .exit)) r ⌝ }
 {
     if row < 256 {
@@ -95,7 +98,7 @@ fn put_symbol(row: u32, job: u32, out: &mut [u8], at: usize) -> usize
     if row < 512 {
         return put_step(b'W', job, row - 256, out, at);
     }
-    if row == 512 {
+    if row == 768 {
         return put_job(b'B', job, out, at);
     }
     put_job(b'E', job, out, at)
@@ -123,17 +126,46 @@ fn put_told(step: u32, numbers: &[u32; 512], states: &[u8; 512], out: &mut [u8],
     if step == 0 {
         return at;
     }
-    let job = ((step - 1) / 514 % 512) as usize;
+    let job = ((step - 1) / 770 % 512) as usize;
     if stand[job] == 4 {
         return at;
     }
     let from = put_blank(out, at);
-    put_symbol((step - 1) % 514, jobs[job], out, from)
+    put_symbol((step - 1) % 770, jobs[job], out, from)
+}
+
+// ---- adds
+
+// Does it tell of an add? It is its row plus 1, modulo 770, and the rows of adds are 512 to 767.
+fn is_add(step: u32) -> bool
+    ensures { λ r. ⌜ r ≡ add-told step ⌝ }
+{
+    let row = step % 770;
+    if row < 513 {
+        return false;
+    }
+    row <= 768
+}
+
+// The place of the first add among n records; n where there is none.
+fn first_add(told: &[u32; 4096], n: usize) -> usize
+    requires { ⌜ n ≤ 4096 ⌝ }
+    ensures { λ r. ⌜ ((h : History) (numbers states : List ℕ) (count : ℕ) → Taken h n numbers states (now (told .entry)) count → r ≡ before-adds h) ⌝ }
+{
+    let steps = &told[..];
+    let mut i: usize = 0;
+    while i < n {
+        if is_add(steps[i]) {
+            return i;
+        }
+        i += 1;
+    }
+    i
 }
 
 // ---- the text
 
-// The symbols of the first n records.
+// The symbols of the first n records, none of which is an add.
 fn put_all(
     told: &[u32; 4096],
     n: usize,
@@ -143,7 +175,7 @@ fn put_all(
 ) -> usize
     requires { ⌜ (n ≤ 4096) × (n * 17 ≤ length (now out)) ⌝ }
     ensures { λ r. ⌜ (r ≤ length (now (out .exit))) × ((h : History) (count : ℕ) → Taken h n (now (numbers .entry)) (now (states .entry)) (now (told .entry)) count
-        → Puts 0 (text-of (without-abandoned h)) (now (out .entry)) (now (out .exit)) r) ⌝ }
+        → NoAdd h → Puts 0 (text-of (without-abandoned h)) (now (out .entry)) (now (out .exit)) r) ⌝ }
 {
     let steps = &told[..];
     let mut at: usize = 0;
@@ -167,7 +199,7 @@ fn copy_out(said: &[u8], n: usize, out: &mut [u8]) -> Exported
     Exported::Done(n)
 }
 
-// The text of a log that is read. A symbol has at most 16 bytes, and a blank before it.
+// The text of a log that is read, where it holds no add. A symbol has at most 16 bytes, and a blank before it.
 fn export_read(
     told: &[u32; 4096],
     n: usize,
@@ -177,8 +209,12 @@ fn export_read(
 ) -> Exported
     requires { ⌜ n ≤ 4096 ⌝ }
     ensures { λ r. ⌜ ((h : History) (count : ℕ) → Taken h n (now (numbers .entry)) (now (states .entry)) (now (told .entry)) count
-        → answered r (now (out .exit)) ≡ filled (text-of (without-abandoned h)) (now (out .entry))) ⌝ }
+        → answered r (now (out .exit)) ≡ exported h (before-adds h) (now (out .entry))) ⌝ }
 {
+    let first = first_add(told, n);
+    if first < n {
+        return Exported::Add(first);
+    }
     let mut said: [u8; 69632] = [0; 69632];
     let size = put_all(told, n, numbers, states, &mut said);
     copy_out(&said, size, out)

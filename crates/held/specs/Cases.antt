@@ -18,7 +18,7 @@ use Rattle.graph.specs.Lists.{_∈_}
 use Rattle.marks.specs.Marks.{bit, mask-of, without, tab}
 use Rattle.history.specs.Events.{has}
 use Rattle.history.specs.Replies.{most-open, Request, Reply, want, tests, code-of, job-of, reply-of}
-use Rattle.history.specs.Cases.{open-one, reads, writes, end, abandon, publishes, granted, refused, Exchange, _gets_, opens-from, Case, requests-of, replies-of, p-table, own-table, rows}
+use Rattle.history.specs.Cases.{open-one, reads, writes, adds, end, abandon, publishes, granted, refused, Exchange, _gets_, opens-from, Case, requests-of, replies-of, p-table, own-table, rows}
 use Rattle.held.specs.Held.{Held, word-marks, set-words, row-words, all-words, fresh-held, number-at, leads-at, word-at, open-at, open-slots, cell-at, slot-of, meets, touched, chain-back, altered, facts, has-past, opened-at, stepped-at, left-at, ended-at, abandoned-at, free-slot, moved, answer-to, after, answers, after-all}
 
 -- ---- the cases of the full history
@@ -37,7 +37,7 @@ held-p-cases c = rows held-answers replies-of (refl, (refl, (refl, (refl, (refl,
 
 pub held-own-cases : (c : Case) → c ∈ own-table → answers (fresh-held (c .first)) (requests-of c) ≡ replies-of c
 unfolding held-answers
-held-own-cases c = rows held-answers replies-of (refl, (refl, (refl, (refl, (refl, (refl, (refl, (refl, (refl, tt)))))))))
+held-own-cases c = rows held-answers replies-of (refl, (refl, (refl, (refl, (refl, (refl, (refl, (refl, (refl, (refl, (refl, (refl, (refl, (refl, tt))))))))))))))
 
 pub held-cases : (c : Case) → c ∈ p-table ++ own-table → answers (fresh-held (c .first)) (requests-of c) ≡ replies-of c
 held-cases c m = ⊎-elim (held-p-cases c) (held-own-cases c) (List·Memᴰ·append-cases p-table m)
@@ -105,14 +105,14 @@ last-number =
       slots = some 0 ∷ some 30 ∷ none ∷ [];
     }
 
--- 1 before all: a kind that is not 1 to 6, or byte 1 not zero, whatever else is wrong or right
+-- 1 before all: a kind that is not 1 to 7, or byte 1 not zero, whatever else is wrong or right
 abbrev pub code-one : Tried
 code-one =
     record {
       first = 1;
       exchanges =
           open-one gets granted 1
-          ∷ request 0 0 5 1 gets refused 1 ∷ request 7 0 5 1 gets refused 1 ∷ request 255 0 5 1 gets refused 1
+          ∷ request 0 0 5 1 gets refused 1 ∷ request 8 0 5 1 gets refused 1 ∷ request 255 0 5 1 gets refused 1
           ∷ request 9 1 5 1 gets refused 1 ∷ request 2 1 256 8 gets refused 1
           ∷ request 1 1 0 0 gets refused 1 ∷ request 3 128 5 1 gets refused 1
           ∷ request 4 1 0 1 gets refused 1 ∷ request 5 255 0 1 gets refused 1 ∷ [];
@@ -163,10 +163,10 @@ own-histories t = rows seen to-see (refl, (refl, (refl, (refl, (refl, (refl, tt)
 pub record Row : Type 0 where
   pub number : ℕ
   pub leads : List ℕ
-  pub own-reads : List ℕ
-  pub own-writes : List ℕ
-  pub past-reads : List ℕ
-  pub past-writes : List ℕ
+  pub own-used : List ℕ
+  pub own-altered : List ℕ
+  pub past-used : List ℕ
+  pub past-altered : List ℕ
 
 pub record State : Type 0 where
   pub next : ℕ
@@ -181,10 +181,10 @@ marks-in w (c ∷ cs) = cond (eqb (c / word-marks) w) (bitOr (2 ^ (c % word-mark
 abbrev pub set-of : List ℕ → List ℕ
 set-of cs = tab set-words (λ w. marks-in w cs)
 
--- the words of rows, each own before past and reads before writes
+-- the words of rows, each own before past and used before altered
 abbrev pub words-of : List Row → List ℕ
 words-of [] = []
-words-of (r ∷ rs) = set-of (r .own-reads) ++ (set-of (r .own-writes) ++ (set-of (r .past-reads) ++ (set-of (r .past-writes) ++ words-of rs)))
+words-of (r ∷ rs) = set-of (r .own-used) ++ (set-of (r .own-altered) ++ (set-of (r .past-used) ++ (set-of (r .past-altered) ++ words-of rs)))
 
 abbrev pub held-of : State → Held
 held-of s =
@@ -224,30 +224,30 @@ refusal s r c = record { before = s; asked = r; answered = refused c; left = s }
 
 -- a row with no cells: `bare 7 (1 ∷ [])` is job 7, leading to slot 1
 abbrev pub bare : ℕ → List ℕ → Row
-bare n l = record { number = n; leads = l; own-reads = []; own-writes = []; past-reads = []; past-writes = [] }
+bare n l = record { number = n; leads = l; own-used = []; own-altered = []; past-used = []; past-altered = [] }
 
 abbrev pub blank : Row
 blank = bare 0 []
 
--- a row whose job has read and written itself, one that only has a past
+-- a row whose job has used and altered cells itself, one that only has a past
 abbrev pub with-own : ℕ → List ℕ → List ℕ → List ℕ → Row
-with-own n l rs ws = record { number = n; leads = l; own-reads = rs; own-writes = ws; past-reads = []; past-writes = [] }
+with-own n l us vs = record { number = n; leads = l; own-used = us; own-altered = vs; past-used = []; past-altered = [] }
 
 abbrev pub with-past : ℕ → List ℕ → List ℕ → List ℕ → Row
-with-past n l rs ws = record { number = n; leads = l; own-reads = []; own-writes = []; past-reads = rs; past-writes = ws }
+with-past n l us vs = record { number = n; leads = l; own-used = []; own-altered = []; past-used = us; past-altered = vs }
 
 abbrev pub state : ℕ → List ℕ → List Row → State
 state n o rs = record { next = n; slots = o; rows = rs }
 
 -- one number in three slots, the lowest of them not open: the lower open slot, 1, is meant. Slot 2 is another job though it has the same number:
--- it has read the cell, so it comes to lead to slot 1
+-- it has read the cell, so it comes to lead to slot 1. The write marks both sets
 abbrev pub one-number-twice : MadeUp
 one-number-twice =
     record {
       before = state 9 (1 ∷ 2 ∷ []) (bare 7 [] ∷ bare 7 [] ∷ with-own 7 [] (5 ∷ []) [] ∷ []);
       asked = writes 7 5;
       answered = granted 7;
-      left = state 9 (1 ∷ 2 ∷ []) (bare 7 [] ∷ with-own 7 [] [] (5 ∷ []) ∷ with-own 7 (1 ∷ []) (5 ∷ []) [] ∷ []);
+      left = state 9 (1 ∷ 2 ∷ []) (bare 7 [] ∷ with-own 7 [] (5 ∷ []) (5 ∷ []) ∷ with-own 7 (1 ∷ []) (5 ∷ []) [] ∷ []);
     }
 
 -- and an end of that number leaves the higher slot open
@@ -267,7 +267,7 @@ one-number-published =
       before = state 9 (1 ∷ 2 ∷ []) (bare 7 [] ∷ bare 7 [] ∷ with-own 7 [] (5 ∷ []) [] ∷ []);
       asked = publishes 7 5;
       answered = granted 7;
-      left = state 9 (2 ∷ []) (bare 7 [] ∷ blank ∷ record { number = 7; leads = []; own-reads = 5 ∷ []; own-writes = []; past-reads = []; past-writes = 5 ∷ [] } ∷ []);
+      left = state 9 (2 ∷ []) (bare 7 [] ∷ blank ∷ record { number = 7; leads = []; own-used = 5 ∷ []; own-altered = []; past-used = 5 ∷ []; past-altered = 5 ∷ [] } ∷ []);
     }
 
 -- a number held only by a slot that is not open
@@ -326,6 +326,30 @@ past-of-other =
       left = state 9 (0 ∷ 1 ∷ 2 ∷ []) (with-own 6 [] (255 ∷ []) [] ∷ with-past 7 (0 ∷ []) [] (255 ∷ []) ∷ with-own 8 [] (255 ∷ []) [] ∷ []);
     }
 
+-- adds of other slots, and those in a past, do not make them lead to a slot that adds; the add marks the altered set alone
+abbrev pub adds-beside : MadeUp
+adds-beside =
+    record {
+      before = state 9 (0 ∷ 1 ∷ 2 ∷ []) (with-past 6 [] [] (70 ∷ []) ∷ with-own 7 [] [] (70 ∷ []) ∷ with-past 8 [] [] (70 ∷ []) ∷ []);
+      asked = adds 6 70;
+      answered = granted 6;
+      left =
+          state 9 (0 ∷ 1 ∷ 2 ∷ [])
+          (record { number = 6; leads = []; own-used = []; own-altered = 70 ∷ []; past-used = []; past-altered = 70 ∷ [] } ∷ with-own 7 [] [] (70 ∷ []) ∷ with-past 8 [] [] (70 ∷ []) ∷ []);
+    }
+
+-- reads do, and reads in a past: they used the cell. And writes, which used it too
+abbrev pub add-after-read : MadeUp
+add-after-read =
+    record {
+      before = state 9 (0 ∷ 1 ∷ 2 ∷ 3 ∷ []) (bare 6 [] ∷ with-own 7 [] (70 ∷ []) [] ∷ with-past 8 [] (70 ∷ []) [] ∷ with-own 5 [] (70 ∷ []) (70 ∷ []) ∷ []);
+      asked = adds 6 70;
+      answered = granted 6;
+      left =
+          state 9 (0 ∷ 1 ∷ 2 ∷ 3 ∷ [])
+          (with-own 6 [] [] (70 ∷ []) ∷ with-own 7 (0 ∷ []) (70 ∷ []) [] ∷ with-past 8 (0 ∷ []) (70 ∷ []) [] ∷ with-own 5 (0 ∷ []) (70 ∷ []) (70 ∷ []) ∷ []);
+    }
+
 -- slots that are not open are ignored: neither the chain by way of slot 1 nor the sets and the lead of slots 1 and 2 count, and they stay
 abbrev pub not-open-ignored : MadeUp
 not-open-ignored =
@@ -348,7 +372,7 @@ open-blanks =
           state 9 (0 ∷ 2 ∷ [])
           (
           with-own 6 (0 ∷ 1 ∷ 2 ∷ 3 ∷ []) (5 ∷ []) []
-          ∷ record { number = 6; leads = 0 ∷ 1 ∷ 3 ∷ []; own-reads = 0 ∷ []; own-writes = 64 ∷ []; past-reads = 128 ∷ []; past-writes = 255 ∷ [] }
+          ∷ record { number = 6; leads = 0 ∷ 1 ∷ 3 ∷ []; own-used = 0 ∷ []; own-altered = 64 ∷ []; past-used = 128 ∷ []; past-altered = 255 ∷ [] }
           ∷ bare 8 (1 ∷ []) ∷ with-past 4 (1 ∷ 2 ∷ []) (5 ∷ []) (6 ∷ []) ∷ []
           );
       asked = open-one;
@@ -356,7 +380,7 @@ open-blanks =
       left = state 10 (0 ∷ 1 ∷ 2 ∷ []) (with-own 6 (0 ∷ 2 ∷ 3 ∷ []) (5 ∷ []) [] ∷ bare 9 [] ∷ bare 8 [] ∷ with-past 4 (2 ∷ []) (5 ∷ []) (6 ∷ []) ∷ []);
     }
 
--- an open slot that has a past, of reads or of writes, comes to lead to the new job and keeps its other leads, slots 0 and 2. Slot 3 has steps of its own alone and slot 4 is
+-- an open slot that has a past, used or altered, comes to lead to the new job and keeps its other leads, slots 0 and 2. Slot 3 has steps of its own alone and slot 4 is
 -- not open: they do not, and a mark that they had is struck
 abbrev pub open-led-to : MadeUp
 open-led-to =
@@ -385,8 +409,8 @@ end-hands-on =
       before =
           state 9 (0 ∷ 1 ∷ 2 ∷ 4 ∷ [])
           (
-          record { number = 5; leads = 0 ∷ 1 ∷ 2 ∷ 3 ∷ []; own-reads = 5 ∷ []; own-writes = 6 ∷ []; past-reads = 70 ∷ []; past-writes = 255 ∷ [] }
-          ∷ record { number = 6; leads = 0 ∷ []; own-reads = 1 ∷ []; own-writes = []; past-reads = 2 ∷ []; past-writes = [] }
+          record { number = 5; leads = 0 ∷ 1 ∷ 2 ∷ 3 ∷ []; own-used = 5 ∷ []; own-altered = 6 ∷ []; past-used = 70 ∷ []; past-altered = 255 ∷ [] }
+          ∷ record { number = 6; leads = 0 ∷ []; own-used = 1 ∷ []; own-altered = []; past-used = 2 ∷ []; past-altered = [] }
           ∷ with-own 7 (1 ∷ []) [] (4 ∷ []) ∷ with-own 8 (0 ∷ 2 ∷ []) [] (3 ∷ []) ∷ bare 5 (0 ∷ 3 ∷ []) ∷ []
           );
       asked = end 5;
@@ -395,7 +419,7 @@ end-hands-on =
           state 9 (1 ∷ 2 ∷ 4 ∷ [])
           (
           blank
-          ∷ record { number = 6; leads = 1 ∷ 2 ∷ []; own-reads = 1 ∷ []; own-writes = []; past-reads = 2 ∷ 5 ∷ 70 ∷ []; past-writes = 6 ∷ 255 ∷ [] }
+          ∷ record { number = 6; leads = 1 ∷ 2 ∷ []; own-used = 1 ∷ []; own-altered = []; past-used = 2 ∷ 5 ∷ 70 ∷ []; past-altered = 6 ∷ 255 ∷ [] }
           ∷ with-own 7 (1 ∷ []) [] (4 ∷ []) ∷ with-own 8 (2 ∷ []) [] (3 ∷ [])
           ∷ with-past 5 (1 ∷ 2 ∷ 3 ∷ []) (5 ∷ 70 ∷ []) (6 ∷ 255 ∷ []) ∷ []
           );
@@ -408,7 +432,7 @@ publish-hands-on =
       before =
           state 9 (0 ∷ 1 ∷ 2 ∷ [])
           (
-          record { number = 5; leads = 2 ∷ []; own-reads = 5 ∷ []; own-writes = []; past-reads = []; past-writes = 255 ∷ [] }
+          record { number = 5; leads = 2 ∷ []; own-used = 5 ∷ []; own-altered = []; past-used = []; past-altered = 255 ∷ [] }
           ∷ with-own 6 [] (6 ∷ []) [] ∷ bare 7 [] ∷ with-own 8 [] (6 ∷ []) [] ∷ []
           );
       asked = publishes 5 6;
@@ -417,19 +441,19 @@ publish-hands-on =
           state 9 (1 ∷ 2 ∷ [])
           (
           blank
-          ∷ record { number = 6; leads = 2 ∷ []; own-reads = 6 ∷ []; own-writes = []; past-reads = 5 ∷ []; past-writes = 6 ∷ 255 ∷ [] }
+          ∷ record { number = 6; leads = 2 ∷ []; own-used = 6 ∷ []; own-altered = []; past-used = 5 ∷ 6 ∷ []; past-altered = 6 ∷ 255 ∷ [] }
           ∷ bare 7 [] ∷ with-own 8 [] (6 ∷ []) [] ∷ []
           );
     }
 
--- an abandon hands nothing on, and strikes its mark in every row, open or not; writes in the past do not bar it
+-- an abandon hands nothing on, and strikes its mark in every row, open or not; neither a cell it has used nor a past of altered ones bars it
 abbrev pub abandon-strikes : MadeUp
 abandon-strikes =
     record {
       before =
           state 9 (0 ∷ 1 ∷ [])
           (
-          record { number = 6; leads = 0 ∷ 1 ∷ []; own-reads = 5 ∷ []; own-writes = []; past-reads = []; past-writes = 6 ∷ [] }
+          record { number = 6; leads = 0 ∷ 1 ∷ []; own-used = 5 ∷ []; own-altered = []; past-used = []; past-altered = 6 ∷ [] }
           ∷ bare 7 (0 ∷ 1 ∷ []) ∷ bare 8 (0 ∷ 1 ∷ []) ∷ []
           );
       asked = abandon 6;
@@ -437,7 +461,7 @@ abandon-strikes =
       left = state 9 (1 ∷ []) (blank ∷ bare 7 (1 ∷ []) ∷ bare 8 (1 ∷ []) ∷ []);
     }
 
--- any mark among its own writes does
+-- any mark among the cells that it has altered does: an add alone leaves such a row
 abbrev pub abandon-barred : MadeUp
 abandon-barred = refusal (state 9 (0 ∷ []) (with-own 6 [] [] (255 ∷ []) ∷ [])) (abandon 6) 4
 
@@ -445,20 +469,20 @@ abbrev pub made-up-table : List MadeUp
 made-up-table =
     one-number-twice ∷ one-number-ended ∷ one-number-published ∷ number-not-open
     ∷ leads-to-itself ∷ leads-to-itself-cell ∷ leads-to-itself-ends ∷ leads-to-itself-publishes ∷ old-circle ∷ circle-beside
-    ∷ held-and-new ∷ past-of-asker ∷ past-of-other ∷ not-open-ignored
+    ∷ held-and-new ∷ past-of-asker ∷ past-of-other ∷ adds-beside ∷ add-after-read ∷ not-open-ignored
     ∷ past-last-number ∷ open-blanks ∷ open-led-to ∷ end-hands-on ∷ publish-hands-on ∷ abandon-strikes ∷ abandon-barred ∷ []
 
 -- every made-up state of the table gives the answer as written
 pub made-up-answers : (m : MadeUp) → m ∈ made-up-table → answer-to (held-of (m .before)) (m .asked) ≡ m .answered
 unfolding made-up-answer
-made-up-answers m = rows made-up-answer (λ m. m .answered) (refl, (refl, (refl, (refl, (refl, (refl, (refl, (refl, (refl, (refl, (refl, (refl, (refl, (refl, (refl, (refl, (refl, (refl, (refl, (refl, (refl, tt)))))))))))))))))))))
+made-up-answers m = rows made-up-answer (λ m. m .answered) (refl, (refl, (refl, (refl, (refl, (refl, (refl, (refl, (refl, (refl, (refl, (refl, (refl, (refl, (refl, (refl, (refl, (refl, (refl, (refl, (refl, (refl, (refl, tt)))))))))))))))))))))))
 
 -- the rows whose next state is compared here: those by which a wrong move is told that no answer of the tables above tells
 abbrev pub moved-table : List MadeUp
-moved-table = one-number-ended ∷ not-open-ignored ∷ open-blanks ∷ open-led-to ∷ end-hands-on ∷ []
+moved-table = one-number-ended ∷ adds-beside ∷ add-after-read ∷ not-open-ignored ∷ open-blanks ∷ open-led-to ∷ end-hands-on ∷ []
 
 -- they leave the next state as written: the next number, the free slots, every number, every lead, and the words of the first six rows. No row of the
 -- table uses a slot above 4. All rows of the whole table are compared in crate `made` (`made-up-states`), with the whole 512 words, apart, so that an edit of the rule is refused sooner
 pub made-up-rows : (m : MadeUp) → m ∈ moved-table → first-rows (after (held-of (m .before)) (m .asked)) ≡ first-rows (held-of (m .left))
 unfolding made-up-next
-made-up-rows m = rows (λ m. first-rows (made-up-next m)) (λ m. first-rows (held-of (m .left))) (refl, (refl, (refl, (refl, (refl, tt)))))
+made-up-rows m = rows (λ m. first-rows (made-up-next m)) (λ m. first-rows (held-of (m .left))) (refl, (refl, (refl, (refl, (refl, (refl, (refl, tt)))))))

@@ -1,11 +1,13 @@
 -- What the 32 slots hold, on lists of numbers, and the rule over it, total for any content and exact to the last bit.
 --
 -- A state is the next number, a mask of the free slots, and for each slot a row: a job number, a mask of the slots it leads to, and sixteen
--- words, four for each cell set: own reads, own writes, past reads, past writes. The facts that the codes ask are read off it (`facts`), and a grant
--- moves it (`after`). For states that no requests give this is how document 01 is read: the lowest open slot that holds the number is meant; what
--- is held is taken as it is; new leads are added first, and then any chain of leads over open slots from the asking slot back to it gives 7;
--- rows and marks of slots that are not open count for nothing.
+-- words, four for each cell set: own used, own altered, past used, past altered. A read uses its cell, an add alters it, a write does both; two steps on a
+-- cell clash exactly when one uses it and the other alters it (`clash-shows`), so that two sets are enough for three kinds. The facts that the codes ask are
+-- read off a state (`facts`), and a grant moves it (`after`). For states that no requests give this is how document 01 is read: the lowest open slot that
+-- holds the number is meant; what is held is taken as it is; new leads are added first, and then any chain of leads over open slots from the asking slot
+-- back to it gives 7; rows and marks of slots that are not open count for nothing.
 -- Assumes nothing.
+use mathlib.Core.Path.{_≡_, refl}
 use mathlib.Core.Bool.{Bool, true, false, not, _&&_, _||_, cond}
 use mathlib.Core.Option.{Option, none, some}
 use mathlib.Core.List.{List, [], _∷_}
@@ -18,7 +20,7 @@ use Rattle.graph.specs.Lists.{only}
 use Rattle.graph.specs.Reach.{reach}
 use Rattle.marks.specs.Marks.{bit, mask-of, without, tab, upto}
 use Rattle.marks.specs.Words.{empty}
-use Rattle.history.specs.Events.{Kind, read, write, kinds, alters, kinds-clash}
+use Rattle.history.specs.Events.{Kind, read, write, add, alters, kinds-clash}
 use Rattle.history.specs.Replies.{most-open, Request, Reply, Want, an-open, a-step, an-end, an-abandon, a-publish, nothing, want, Facts, code-of, reply-of}
 
 pub record Held : Type 0 where
@@ -43,6 +45,39 @@ past-place = 8
 
 abbrev pub all-words : ℕ
 all-words = 512
+
+-- ---- what a step does to its cell
+
+-- it uses what is in the cell, or alters it
+pub data Aspect : Type 0 where
+  as-used as-altered : Aspect
+
+abbrev pub aspects : List Aspect
+aspects = as-used ∷ as-altered ∷ []
+
+-- an add alters alone. A write, which leaves nothing of what was there, counts as both
+abbrev pub uses : Kind → Bool
+uses read = true
+uses write = true
+uses add = false
+
+abbrev pub shows : Kind → Aspect → Bool
+shows k as-used = uses k
+shows k as-altered = alters k
+
+-- two kinds clash exactly when one uses the cell and the other alters it
+pub clash-shows : (k l : Kind) → kinds-clash k l ≡ (shows l as-altered && shows k as-used) || (shows l as-used && shows k as-altered)
+clash-shows read read = refl
+clash-shows read write = refl
+clash-shows read add = refl
+clash-shows write read = refl
+clash-shows write write = refl
+clash-shows write add = refl
+clash-shows add read = refl
+clash-shows add write = refl
+clash-shows add add = refl
+
+-- ---- a fresh state
 
 -- no job: every slot free, every row blank
 unfoldable pub fresh-held : ℕ → Held
@@ -74,10 +109,10 @@ open-at h i = not (bit (h .free) i)
 unfoldable pub open-slots : Held → List ℕ
 open-slots h = only (open-at h) (upto most-open)
 
--- where the set of a kind stands, among own and among past
-abbrev pub set-place : Kind → ℕ
-set-place read = 0
-set-place write = set-words
+-- where the used and the altered cells stand, among own and among past
+abbrev pub set-place : Aspect → ℕ
+set-place as-used = 0
+set-place as-altered = set-words
 
 -- the set that begins at word o of row i, and is the cell in it?
 abbrev pub set-at : Held → ℕ → ℕ → List ℕ
@@ -86,11 +121,11 @@ set-at h i o = tab set-words (λ w. word-at h i (o + w))
 unfoldable pub cell-at : Held → ℕ → ℕ → ℕ → Bool
 cell-at h i o c = bit (word-at h i (o + c / word-marks)) (c % word-marks)
 
-abbrev pub own-at : Held → ℕ → Kind → ℕ → Bool
-own-at h i k c = cell-at h i (set-place k) c
+abbrev pub own-at : Held → ℕ → Aspect → ℕ → Bool
+own-at h i a c = cell-at h i (set-place a) c
 
-abbrev pub past-at : Held → ℕ → Kind → ℕ → Bool
-past-at h i k c = cell-at h i (past-place + set-place k) c
+abbrev pub past-at : Held → ℕ → Aspect → ℕ → Bool
+past-at h i a c = cell-at h i (past-place + set-place a) c
 
 -- ---- the facts
 
@@ -111,9 +146,9 @@ at-slot (some s) f = f s
 unfoldable pub slot-of : Held → ℕ → Option ℕ
 slot-of h j = first-in (only (λ i. eqb (number-at h i) j) (open-slots h))
 
--- sets of cells, one for each kind, clash with a later step of kind k on cell c
-unfoldable pub meets : (Kind → ℕ → Bool) → Kind → ℕ → Bool
-meets f k c = some-of (λ l. f l c && kinds-clash l k) kinds
+-- the used and the altered cells clash with a later step of kind k on cell c: one that alters looks at the used, one that uses at the altered
+unfoldable pub meets : (Aspect → ℕ → Bool) → Kind → ℕ → Bool
+meets f k c = (shows k as-altered && f as-used c) || (shows k as-used && f as-altered c)
 
 -- slot i comes to lead to slot s at its step: another slot's own clashes with it, or any slot's past does, s's too
 unfoldable pub touched : Held → Kind → ℕ → ℕ → ℕ → Bool
@@ -123,9 +158,9 @@ touched h k s c i = (not (eqb i s) && meets (own-at h i) k c) || meets (past-at 
 unfoldable pub chain-back : Held → Kind → ℕ → ℕ → Bool
 chain-back h k s c = reach (λ i x. bit (leads-at h i) x || (eqb x s && touched h k s c i)) (open-slots h) s s
 
--- a set that bars abandoning is not empty
+-- the slot has altered a cell itself, which bars abandoning
 unfoldable pub altered : Held → ℕ → Bool
-altered h s = some-of (λ k. alters k && not (empty (set-at h s (set-place k)))) kinds
+altered h s = not (empty (set-at h s (set-place as-altered)))
 
 unfoldable pub facts : Held → Facts
 facts h =
@@ -141,7 +176,7 @@ facts h =
 
 -- a past set is not empty. Of a state that requests give: the slot leads to some job that has ended
 unfoldable pub has-past : Held → ℕ → Bool
-has-past h i = some-of (λ k. not (empty (set-at h i (past-place + set-place k)))) kinds
+has-past h i = some-of (λ a. not (empty (set-at h i (past-place + set-place a)))) aspects
 
 -- the new job goes into slot s: its row is blank but for the number, the open rows that have a past lead to it, and no other row does
 unfoldable pub opened-at : Held → ℕ → Held
@@ -154,6 +189,10 @@ opened-at h s =
       sets = tab all-words (λ w. cond (eqb (w / row-words) s) 0 (getD (h .sets) w 0));
     }
 
+-- is word w the one of cell c in an own set of slot s that a step of kind k marks? A read marks the used, an add the altered, a write both
+abbrev pub marks-word : Kind → ℕ → ℕ → ℕ → Bool
+marks-word k s c w = some-of (λ a. shows k a && eqb w (s * row-words + (set-place a + c / word-marks))) aspects
+
 -- a step of slot s: the open slots that it touches come to lead to s, and s's own has the cell
 unfoldable pub stepped-at : Held → Kind → ℕ → ℕ → Held
 stepped-at h k s c =
@@ -163,7 +202,7 @@ stepped-at h k s c =
       numbers = h .numbers;
       leads = tab most-open (λ i. cond (open-at h i && touched h k s c i) (bitOr (leads-at h i) (2 ^ s)) (leads-at h i));
       sets =
-          tab all-words (λ w. cond (eqb w (s * row-words + (set-place k + c / word-marks))) (bitOr (getD (h .sets) w 0) (2 ^ (c % word-marks))) (getD (h .sets) w 0));
+          tab all-words (λ w. cond (marks-word k s c w) (bitOr (getD (h .sets) w 0) (2 ^ (c % word-marks))) (getD (h .sets) w 0));
     }
 
 -- slot s is left: its row is blank, no row leads to it, and the rows that pass t take over its own, its past and its leads to open slots

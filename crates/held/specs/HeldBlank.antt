@@ -22,8 +22,8 @@ use Rattle.history.specs.Replies.{cells, most-open, numbers, Request, Want, an-
 use Rattle.history.specs.ReplyLaws.{as-kind, publish-reply}
 use Rattle.history.specs.Granted.{below-bound, passed, undenied, proper-step}
 use Rattle.held.specs.Held.{Held, row-words, past-place, all-words, fresh-held, number-at, leads-at, word-at, open-at, open-slots, touched, first-in, is-some, slot-of, facts, has-past, opened-at, stepped-at, left-at, ended-at, with-slot, free-slot, moved, answer-to, after, after-all}
-use Rattle.held.specs.HeldMoves.{own-word, read-tab, number-opened, leads-opened, leads-stepped, number-left, leads-left, row-opened, row-stepped, row-left, Fits, fresh-fits, opened-fits, stepped-fits, left-fits, Moves, kept-after, kept-after-all}
-use Rattle.held.specs.HeldLaws.{own-inside, opened-open-at, left-open-at}
+use Rattle.held.specs.HeldMoves.{read-tab, number-opened, leads-opened, leads-stepped, number-left, leads-left, row-opened, row-stepped, row-left, Fits, fresh-fits, opened-fits, stepped-fits, left-fits, Moves, kept-after, kept-after-all}
+use Rattle.held.specs.HeldLaws.{own-inside, marks-test, opened-open-at, left-open-at}
 
 -- ---- ranges
 
@@ -196,7 +196,7 @@ module _ {h : Held} (b : Blank h) (s : ℕ) (q : s < most-open) where
               leads = leads-stepped h s k c i p ∙ cond-out _ _ (ap (λ (b : Bool). b && touched h k s c i) z) ∙ g .leads;
               word = λ o m.
                   row-stepped h s i o p m k c
-                  ∙ cond-out _ _ (test-false (eq-test (i * row-words + o) (own-word s k c)) (λ e. other (row-alone m (own-inside k c real) e)))
+                  ∙ cond-out _ _ (test-false (marks-test k s c (i * row-words + o)) (λ e. other (row-alone m (own-inside (e .0) c real) (e .2 .1))))
                   ∙ g .word o m;
               struck = λ x m.
                   ap (λ (n : ℕ). bit n i) (leads-stepped h s k c x m)

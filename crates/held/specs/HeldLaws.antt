@@ -10,15 +10,13 @@ use native.Mathlib.Omega.{arith}
 use lib.Bits.{bitOr, bitAnd}
 use lib.Dec.{T, leb, eqb}
 use lib.ListN.{length}
-use Rattle.graph.specs.Decide.{and-test, or-test, not-test, eq-test, le-test, own-test, same-test, test-true, test-false}
-use Rattle.graph.specs.Lists.{_∈_, only-keeps, only-from, only-same, only-all, Once, once-only, strike, only-strike}
+use Rattle.graph.specs.Decide.{Decides, and-test, or-test, not-test, eq-test, le-test, own-test, same-test, some-test, test-true, test-false}
+use Rattle.graph.specs.Lists.{_∈_, here, later, only-keeps, only-from, only-same, only-all, Once, once-only, strike, only-strike}
 use Rattle.marks.specs.Marks.{bit, mask-of, without, upto}
 use Rattle.marks.specs.MarkLaws.{upto-has, upto-from, upto-once, bit-zero, bit-pow, bit-or, bit-and, bit-without, bit-mask}
-use Rattle.history.specs.Events.{Kind, read, write}
+use Rattle.history.specs.Events.{Kind, read, write, add}
 use Rattle.history.specs.Replies.{most-open, cells}
-use Rattle.history.specs.Memory.{same-kind}
-use Rattle.history.specs.MemoryLaws.{kind-test}
-use Rattle.held.specs.Held.{Held, word-marks, set-words, row-words, past-place, leads-at, word-at, open-at, open-slots, set-place, cell-at, own-at, past-at, touched, has-past, opened-at, stepped-at, left-at}
+use Rattle.held.specs.Held.{Held, word-marks, set-words, row-words, past-place, leads-at, word-at, open-at, open-slots, Aspect, as-used, as-altered, aspects, shows, set-place, marks-word, cell-at, own-at, past-at, meets, touched, has-past, opened-at, stepped-at, left-at}
 use Rattle.held.specs.HeldMoves.{own-word, leads-opened, leads-stepped, leads-left, row-opened, row-stepped, row-left}
 
 -- ---- marks of numbers that are chosen by a test
@@ -47,25 +45,34 @@ without-bit n s x = bit-without n s x ∙ and-comm (bit n x) (not (eqb x s))
 -- ---- where the words of a set stand
 
 -- in the own or the past half of the row
-pub set-end : (k : Kind) → set-place k ≤ set-words
-set-end read = omega arith
-set-end write = omega arith
+pub set-end : (a : Aspect) → set-place a ≤ set-words
+set-end as-used = omega arith
+set-end as-altered = omega arith
 
-own-place : (k : Kind) (c : ℕ) → c < cells → set-place k + c / word-marks < past-place
-own-place k c h = omega (arith, set-end k)
+own-place : (a : Aspect) (c : ℕ) → c < cells → set-place a + c / word-marks < past-place
+own-place a c h = omega (arith, set-end a)
 
-pub own-inside : (k : Kind) (c : ℕ) → c < cells → set-place k + c / word-marks < row-words
-own-inside k c h = omega (arith, set-end k)
+pub own-inside : (a : Aspect) (c : ℕ) → c < cells → set-place a + c / word-marks < row-words
+own-inside a c h = omega (arith, set-end a)
 
-past-inside : (k : Kind) (c : ℕ) → c < cells → past-place + set-place k + c / word-marks < row-words
-past-inside k c h = omega (arith, set-end k)
+past-inside : (a : Aspect) (c : ℕ) → c < cells → past-place + set-place a + c / word-marks < row-words
+past-inside a c h = omega (arith, set-end a)
 
 -- a place among the words of the sets says which set and which word of it
-which-word : (k l : Kind) (a b : ℕ) → a < set-words → b < set-words → set-place k + a ≡ set-place l + b → (k ≡ l) × (a ≡ b)
-which-word read read a b p q e = (refl, omega arith)
-which-word read write a b p q e = absurd (omega arith)
-which-word write read a b p q e = absurd (omega arith)
-which-word write write a b p q e = (refl, omega arith)
+which-word : (a b : Aspect) (m n : ℕ) → m < set-words → n < set-words → set-place a + m ≡ set-place b + n → (a ≡ b) × (m ≡ n)
+which-word as-used as-used m n p q e = (refl, omega arith)
+which-word as-used as-altered m n p q e = absurd (omega arith)
+which-word as-altered as-used m n p q e = absurd (omega arith)
+which-word as-altered as-altered m n p q e = (refl, omega arith)
+
+-- each aspect is one of the two
+pub every-aspect : (a : Aspect) → a ∈ aspects
+every-aspect as-used = here
+every-aspect as-altered = later here
+
+-- a word is marked exactly when it is the cell's in the own set of an aspect that the step shows
+pub marks-test : (k : Kind) (s c w : ℕ) → Decides (marks-word k s c w) ((a : Aspect) × (a ∈ aspects) × (T (shows k a) × (w ≡ own-word s a c)))
+marks-test k s c w = some-test (λ a. and-test (own-test (shows k a)) (eq-test w (own-word s a c))) aspects
 
 -- ---- an open
 
@@ -94,14 +101,28 @@ module _ (h : Held) (s i : ℕ) where
         ∙ blank-bit (eqb i s) (word-at h i (o + c / word-marks)) (c % word-marks)
 
     -- the slot's own is blank, any other as it was
-    pub opened-own-at : (k : Kind) (c : ℕ) → c < cells → own-at (opened-at h s) i k c ≡ not (eqb i s) && own-at h i k c
-    opened-own-at k c real = cell-opened (set-place k) c (own-inside k c real)
+    pub opened-own-at : (a : Aspect) (c : ℕ) → c < cells → own-at (opened-at h s) i a c ≡ not (eqb i s) && own-at h i a c
+    opened-own-at a c real = cell-opened (set-place a) c (own-inside a c real)
 
     -- and so with its past
-    pub opened-past-at : (k : Kind) (c : ℕ) → c < cells → past-at (opened-at h s) i k c ≡ not (eqb i s) && past-at h i k c
-    opened-past-at k c real = cell-opened (past-place + set-place k) c (past-inside k c real)
+    pub opened-past-at : (a : Aspect) (c : ℕ) → c < cells → past-at (opened-at h s) i a c ≡ not (eqb i s) && past-at h i a c
+    opened-past-at a c real = cell-opened (past-place + set-place a) c (past-inside a c real)
 
 -- ---- a step
+
+-- a later read looks at the altered cells, an add at the used ones, a write at both
+module _ (f : Aspect → ℕ → Bool) (c : ℕ) where
+  pub meets-read : meets f read c ≡ f as-altered c
+  unfolding meets
+  meets-read = refl
+
+  pub meets-add : meets f add c ≡ f as-used c
+  unfolding meets
+  meets-add = or-false (f as-used c)
+
+  pub meets-write : meets f write c ≡ f as-used c || f as-altered c
+  unfolding meets
+  meets-write = refl
 
 module _ (h : Held) (k : Kind) (s c i : ℕ) where
   -- a step opens and closes no slot
@@ -118,43 +139,50 @@ module _ (h : Held) (k : Kind) (s c i : ℕ) where
         ∙ more-bit b (leads-at h i) (2 ^ s) x
         ∙ ap (λ (a : Bool). bit (leads-at h i) x || a) (ap (λ (a : Bool). b && a) (bit-pow s x) ∙ and-comm b (eqb x s))
 
-    -- the mark of the cell is added to the word where it stands
+    -- the mark of the cell is added to the words where it stands
     cell-stepped : (o c′ : ℕ) → o + c′ / word-marks < row-words → cell-at (stepped-at h k s c) i o c′
-        ≡ cell-at h i o c′ || (eqb (i * row-words + (o + c′ / word-marks)) (own-word s k c) && eqb (c′ % word-marks) (c % word-marks))
+        ≡ cell-at h i o c′ || (marks-word k s c (i * row-words + (o + c′ / word-marks)) && eqb (c′ % word-marks) (c % word-marks))
     unfolding cell-at
     cell-stepped o c′ q =
         let n = word-at h i (o + c′ / word-marks) in
-        let b = eqb (i * row-words + (o + c′ / word-marks)) (own-word s k c) in
+        let b = marks-word k s c (i * row-words + (o + c′ / word-marks)) in
         ap (λ (n : ℕ). bit n (c′ % word-marks)) (row-stepped h s i (o + c′ / word-marks) p q k c)
         ∙ more-bit b n (2 ^ (c % word-marks)) (c′ % word-marks)
         ∙ ap (λ (a : Bool). bit n (c′ % word-marks) || (b && a)) (bit-pow (c % word-marks) (c′ % word-marks))
 
-    module _ (real : c < cells) (k′ : Kind) (c′ : ℕ) (real′ : c′ < cells) where
-      -- the cell is added to the slot's own, in the set of the step's kind
-      pub stepped-own-at : own-at (stepped-at h k s c) i k′ c′ ≡ own-at h i k′ c′ || (eqb i s && (same-kind k′ k && eqb c′ c))
+    module _ (real : c < cells) (a : Aspect) (c′ : ℕ) (real′ : c′ < cells) where
+      -- the cell is added to the slot's own, in the set of each aspect that the step shows
+      pub stepped-own-at : own-at (stepped-at h k s c) i a c′ ≡ own-at h i a c′ || (eqb i s && (shows k a && eqb c′ c))
       stepped-own-at =
-          cell-stepped (set-place k′) c′ (own-inside k′ c′ real′)
-          ∙ ap (λ (b : Bool). own-at h i k′ c′ || b)
+          cell-stepped (set-place a) c′ (own-inside a c′ real′)
+          ∙ ap (λ (b : Bool). own-at h i a c′ || b)
           (same-test
-          (and-test (eq-test (own-word i k′ c′) (own-word s k c)) (eq-test (c′ % word-marks) (c % word-marks)))
-          (and-test (eq-test i s) (and-test (kind-test k′ k) (eq-test c′ c)))
+          (and-test (marks-test k s c (own-word i a c′)) (eq-test (c′ % word-marks) (c % word-marks)))
+          (and-test (eq-test i s) (and-test (own-test (shows k a)) (eq-test c′ c)))
           (λ e.
-          let a = own-place k c real in
-          let b = own-place k′ c′ real′ in
-          let w = which-word k′ k (c′ / word-marks) (c / word-marks) (omega arith) (omega arith) (let q = e .0 in omega arith) in
-          (let q = e .0 in omega arith, (w .0, let q = e .1 in let r = w .1 in omega arith)))
+          let b = e .0 .0 in
+          let q : own-word i a c′ ≡ own-word s b c = e .0 .2 .1 in
+          let x = own-place b c real in
+          let y = own-place a c′ real′ in
+          let w = which-word a b (c′ / word-marks) (c / word-marks) (omega arith) (omega arith) (omega arith) in
+          (omega arith, (subst (λ (d : Aspect). T (shows k d)) (sym (w .0)) (e .0 .2 .0), let z = e .1 in let r = w .1 in omega arith)))
           (λ e.
-          let same-set = ap set-place (e .1 .0) in
-          (let q = e .0 in let r = e .1 .1 in omega arith, ap (λ (n : ℕ). n % word-marks) (e .1 .1))))
+          let q : i ≡ s = e .0 in
+          let r : c′ ≡ c = e .1 .1 in
+          ((a, every-aspect a, (e .1 .0, omega arith)), ap (λ (n : ℕ). n % word-marks) r)))
 
       -- no past changes
-      pub stepped-past-at : past-at (stepped-at h k s c) i k′ c′ ≡ past-at h i k′ c′
+      pub stepped-past-at : past-at (stepped-at h k s c) i a c′ ≡ past-at h i a c′
       stepped-past-at =
-          cell-stepped (past-place + set-place k′) c′ (past-inside k′ c′ real′)
-          ∙ ap (λ (b : Bool). past-at h i k′ c′ || (b && eqb (c′ % word-marks) (c % word-marks)))
-          (test-false (eq-test (i * row-words + (past-place + set-place k′ + c′ / word-marks)) (own-word s k c))
-          (λ e. let a = own-place k c real in let b = past-inside k′ c′ real′ in omega arith))
-          ∙ or-false (past-at h i k′ c′)
+          cell-stepped (past-place + set-place a) c′ (past-inside a c′ real′)
+          ∙ ap (λ (b : Bool). past-at h i a c′ || (b && eqb (c′ % word-marks) (c % word-marks)))
+          (test-false (marks-test k s c (i * row-words + (past-place + set-place a + c′ / word-marks)))
+          (λ e.
+          let q : i * row-words + (past-place + set-place a + c′ / word-marks) ≡ own-word s (e .0) c = e .2 .1 in
+          let x = own-place (e .0) c real in
+          let y = past-inside a c′ real′ in
+          omega arith))
+          ∙ or-false (past-at h i a c′)
 
 -- ---- a slot is left
 
@@ -194,26 +222,26 @@ module _ (h : Held) (t : ℕ → Bool) (s i : ℕ) where
         ∙ ap (λ (r : Bool). not (eqb i s) && r) (more-bit b n a (c % word-marks)
         ∙ ap (λ (r : Bool). bit n (c % word-marks) || (b && r)) (bit-or (word-at h s (w - past-place)) (word-at h s w) (c % word-marks)))
 
-    module _ (k : Kind) (c : ℕ) (real : c < cells) where
+    module _ (a : Aspect) (c : ℕ) (real : c < cells) where
       -- the slot's own is blank, any other as it was
-      pub left-own-at : own-at (left-at h t s) i k c ≡ not (eqb i s) && own-at h i k c
+      pub left-own-at : own-at (left-at h t s) i a c ≡ not (eqb i s) && own-at h i a c
       left-own-at =
-          let w = set-place k + c / word-marks in
-          let a = bit (word-at h s (w - past-place)) (c % word-marks) || own-at h s k c in
-          cell-left (set-place k) c (own-inside k c real)
+          let w = set-place a + c / word-marks in
+          let r = bit (word-at h s (w - past-place)) (c % word-marks) || own-at h s a c in
+          cell-left (set-place a) c (own-inside a c real)
           ∙ ap (λ (b : Bool). not (eqb i s) && b)
-          (ap (λ (b : Bool). own-at h i k c || (b && a))
-          (ap (λ (b : Bool). t i && b) (test-false (le-test past-place w) (λ e. let q = own-place k c real in omega arith)) ∙ and-comm (t i) false)
-          ∙ or-false (own-at h i k c))
+          (ap (λ (b : Bool). own-at h i a c || (b && r))
+          (ap (λ (b : Bool). t i && b) (test-false (le-test past-place w) (λ e. let q = own-place a c real in omega arith)) ∙ and-comm (t i) false)
+          ∙ or-false (own-at h i a c))
 
       -- the slot's past is blank; a row that takes over adds the slot's own and past
-      pub left-past-at : past-at (left-at h t s) i k c ≡ not (eqb i s) && (past-at h i k c || (t i && (own-at h s k c || past-at h s k c)))
+      pub left-past-at : past-at (left-at h t s) i a c ≡ not (eqb i s) && (past-at h i a c || (t i && (own-at h s a c || past-at h s a c)))
       unfolding cell-at
       left-past-at =
-          let w = past-place + set-place k + c / word-marks in
-          let e : w - past-place ≡ set-place k + c / word-marks = omega arith in
-          cell-left (past-place + set-place k) c (past-inside k c real)
-          ∙ ap₂ (λ (b : Bool) (v : ℕ). not (eqb i s) && (past-at h i k c || (b && (bit (word-at h s v) (c % word-marks) || past-at h s k c))))
+          let w = past-place + set-place a + c / word-marks in
+          let e : w - past-place ≡ set-place a + c / word-marks = omega arith in
+          cell-left (past-place + set-place a) c (past-inside a c real)
+          ∙ ap₂ (λ (b : Bool) (v : ℕ). not (eqb i s) && (past-at h i a c || (b && (bit (word-at h s v) (c % word-marks) || past-at h s a c))))
           (ap (λ (b : Bool). t i && b) (test-true (le-test past-place w) (omega arith)) ∙ and-comm (t i) true) e
 
 -- ---- the open slots

@@ -1,8 +1,9 @@
--- A moved state read slot by slot and word by word; that every move leaves words that fit (`Fits`); and the three moves that a request can make: an open
--- into a free slot, a step of an open slot, an open slot left by an end or an abandon; a publish makes the last two. What the three keep, every request keeps (`kept-after`), whatever the state holds.
+-- A moved state read slot by slot and word by word; the sets after a read, an add and a write (`read-sets`, `add-sets`, `write-sets`); that every move leaves
+-- words that fit (`Fits`); and the three moves that a request can make: an open into a free slot, a step of an open slot, an open slot left by an end or an
+-- abandon; a publish makes the last two. What the three keep, every request keeps (`kept-after`), whatever the state holds.
 -- Assumes nothing.
-use mathlib.Core.Path.{_≡_, ap, ap₂, _∙_}
-use mathlib.Core.Bool.{Bool, false, not, _&&_, cond}
+use mathlib.Core.Path.{_≡_, refl, sym, ap, ap₂, _∙_}
+use mathlib.Core.Bool.{Bool, true, false, not, _&&_, _||_, cond, or-false}
 use mathlib.Core.Option.{Option, none, some}
 use mathlib.Core.List.{List, [], _∷_}
 use Prim.Native.Nat.{ℕ, _+_, _-_, _*_, _/_, _%_, _^_, _<_}
@@ -14,11 +15,11 @@ use lib.Pow.{pow-pos, pow-lt}
 use Rattle.graph.specs.Decide.{by-test, eq-test, T-and-left, cond-below}
 use Rattle.graph.specs.Lists.{_∈_, here, only, only-from}
 use Rattle.marks.specs.Marks.{bit, mask-of, without, tab, upto}
-use Rattle.marks.specs.MarkLaws.{getD-tab, upto-from}
-use Rattle.history.specs.Events.{Kind, write}
+use Rattle.marks.specs.MarkLaws.{getD-tab, tab-same, upto-from}
+use Rattle.history.specs.Events.{Kind, read, write, add}
 use Rattle.history.specs.Replies.{cells, most-open, numbers, Request, Want, an-open, a-step, an-end, an-abandon, a-publish, nothing, want, first-of, tests, code-of}
 use Rattle.history.specs.Granted.{below-bound, passed}
-use Rattle.held.specs.Held.{Held, word-marks, row-words, past-place, all-words, fresh-held, number-at, leads-at, word-at, open-at, open-slots, set-place, touched, first-in, slot-of, facts, has-past, opened-at, stepped-at, left-at, ended-at, abandoned-at, with-slot, free-slot, moved, after, after-all}
+use Rattle.held.specs.Held.{Held, word-marks, row-words, past-place, all-words, fresh-held, number-at, leads-at, word-at, open-at, open-slots, Aspect, as-used, as-altered, set-place, marks-word, touched, first-in, slot-of, facts, has-past, opened-at, stepped-at, left-at, ended-at, abandoned-at, with-slot, free-slot, moved, after, after-all}
 
 -- ---- what a move leaves
 
@@ -26,9 +27,9 @@ use Rattle.held.specs.Held.{Held, word-marks, row-words, past-place, all
 abbrev pub nth-word : Held → ℕ → ℕ
 nth-word h w = getD (h .sets) w 0
 
--- the word that has the mark of a cell in slot s's own
-abbrev pub own-word : ℕ → Kind → ℕ → ℕ
-own-word s k c = s * row-words + (set-place k + c / word-marks)
+-- the word that has the mark of a cell in an own set of slot s
+abbrev pub own-word : ℕ → Aspect → ℕ → ℕ
+own-word s a c = s * row-words + (set-place a + c / word-marks)
 
 -- the rule of a table, read off it
 pub read-tab : (n : ℕ) (f : ℕ → ℕ) (i : ℕ) → i < n → getD (tab n f) i 0 ≡ f i
@@ -55,7 +56,7 @@ module _ (h : Held) (s : ℕ) where
   leads-stepped k c = read-tab most-open _
 
   pub word-stepped : (k : Kind) (c w : ℕ) → w < all-words
-      → nth-word (stepped-at h k s c) w ≡ cond (eqb w (own-word s k c)) (bitOr (nth-word h w) (2 ^ (c % word-marks))) (nth-word h w)
+      → nth-word (stepped-at h k s c) w ≡ cond (marks-word k s c w) (bitOr (nth-word h w) (2 ^ (c % word-marks))) (nth-word h w)
   unfolding stepped-at
   word-stepped k c = read-tab all-words _
 
@@ -78,6 +79,46 @@ module _ (h : Held) (s : ℕ) where
   unfolding left-at
   word-left t = read-tab all-words _
 
+-- the sets after a step, kind by kind: a read marks the used cells and an add the altered ones; a write marks as the two do, one after the other
+abbrev pub marked-in : List ℕ → ℕ → Aspect → ℕ → List ℕ
+marked-in sets s a c = tab all-words (λ w. cond (eqb w (own-word s a c)) (bitOr (getD sets w 0) (2 ^ (c % word-marks))) (getD sets w 0))
+
+module _ (h : Held) (s c : ℕ) where
+  -- word w by what the tests of it come to
+  abbrev as-tested : ℕ → Bool → ℕ
+  as-tested w b = cond b (bitOr (nth-word h w) (2 ^ (c % word-marks))) (nth-word h w)
+
+  pub read-sets : stepped-at h read s c .sets ≡ marked-in (h .sets) s as-used c
+  unfolding stepped-at
+  read-sets =
+      tab-same all-words (λ w. as-tested w (marks-word read s c w)) (λ w. as-tested w (eqb w (own-word s as-used c)))
+      (λ w p. ap (as-tested w) (or-false (eqb w (own-word s as-used c))))
+
+  pub add-sets : stepped-at h add s c .sets ≡ marked-in (h .sets) s as-altered c
+  unfolding stepped-at
+  add-sets =
+      tab-same all-words (λ w. as-tested w (marks-word add s c w)) (λ w. as-tested w (eqb w (own-word s as-altered c)))
+      (λ w p. ap (as-tested w) (or-false (eqb w (own-word s as-altered c))))
+
+  pub write-sets : stepped-at h write s c .sets ≡ marked-in (marked-in (h .sets) s as-used c) s as-altered c
+  unfolding stepped-at
+  write-sets =
+      let first : List ℕ = marked-in (h .sets) s as-used c in
+      tab-same all-words (λ w. as-tested w (marks-word write s c w))
+      (λ w. cond (eqb w (own-word s as-altered c)) (bitOr (getD first w 0) (2 ^ (c % word-marks))) (getD first w 0))
+      (λ w p.
+      one-of-two w (eqb w (own-word s as-used c)) (eqb w (own-word s as-altered c))
+      (λ a b. let x = eq-test w (own-word s as-used c) .holds a in let y = eq-test w (own-word s as-altered c) .holds b in omega arith)
+      ∙ ap (λ (n : ℕ). cond (eqb w (own-word s as-altered c)) (bitOr n (2 ^ (c % word-marks))) n)
+      (sym (read-tab all-words (λ w. as-tested w (eqb w (own-word s as-used c))) w p)))
+    where
+      -- no word is that of both sets
+      one-of-two : (w : ℕ) (a b : Bool) → (T a → T b → ⊥) → as-tested w (a || (b || false)) ≡ cond b (bitOr (as-tested w a) (2 ^ (c % word-marks))) (as-tested w a)
+      one-of-two w true true f = absurd (f tt tt)
+      one-of-two w true false f = refl
+      one-of-two w false true f = refl
+      one-of-two w false false f = refl
+
 -- the same of word o of row i
 module _ (h : Held) (s i o : ℕ) (p : i < most-open) (q : o < row-words) where
   its-row : (i * row-words + o) / row-words ≡ i
@@ -91,7 +132,7 @@ module _ (h : Held) (s i o : ℕ) (p : i < most-open) (q : o < row-words) where
   row-opened = word-opened h s (i * row-words + o) (omega arith) ∙ ap (λ (r : ℕ). cond (eqb r s) 0 (nth-word h (i * row-words + o))) its-row
 
   pub row-stepped : (k : Kind) (c : ℕ) → word-at (stepped-at h k s c) i o
-      ≡ cond (eqb (i * row-words + o) (own-word s k c)) (bitOr (word-at h i o) (2 ^ (c % word-marks))) (word-at h i o)
+      ≡ cond (marks-word k s c (i * row-words + o)) (bitOr (word-at h i o) (2 ^ (c % word-marks))) (word-at h i o)
   unfolding word-at
   row-stepped k c = word-stepped h s k c (i * row-words + o) (omega arith)
 
@@ -119,7 +160,7 @@ module _ {h : Held} (f : Fits h) (s : ℕ) where
   stepped-fits k c =
       record {
         word = λ w p. rw (word-stepped h s k c w p)
-            (cond-below (eqb w (own-word s k c)) (or-lt word-marks (nth-word h w) (2 ^ (c % word-marks)) (f .word w p) (pow-lt {j = word-marks} (omega arith))) (f .word w p));
+            (cond-below (marks-word k s c w) (or-lt word-marks (nth-word h w) (2 ^ (c % word-marks)) (f .word w p) (pow-lt {j = word-marks} (omega arith))) (f .word w p));
       }
 
   pub left-fits : s < most-open → (t : ℕ → Bool) → Fits (left-at h t s)

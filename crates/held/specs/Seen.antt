@@ -1,8 +1,9 @@
--- The rows are the bounded memory seen through the slots (`Seen`): where the memory has a job, the rows have the open slot that holds its number.
--- In order: what is meant; the first that passes a test, and the slot of a number; a step's leads, and walks over slots and over jobs; the facts
+-- The rows are the bounded memory seen through the slots (`Seen`): where the memory has a job, the rows have the open slot that holds its number, and where
+-- the memory has a read, write or add, the rows have its cell in the set of each aspect that it shows (`shown`).
+-- In order: what is meant; what is shown of footprints; the first that passes a test, and the slot of a number; a step's leads, and walks over slots and over jobs; the facts
 -- agree (`seen-agree`); the fresh state (`seen-start`); a step, the leaving of a slot (an end, an abandon), an open; a request (`seen-after`).
 -- Assumes nothing.
-use mathlib.Core.Path.{_≡_, refl, sym, ap, ap₂, _∙_, subst, subst₂, fun-ext}
+use mathlib.Core.Path.{_≡_, refl, sym, ap, ap₂, _∙_, subst, subst₂}
 use mathlib.Core.Logic.{_⊎_, inl, inr, ⊎-elim}
 use mathlib.Core.Bool.{Bool, true, false, not, _&&_, _||_, cond, and-comm, and-false, or-false}
 use mathlib.Core.Option.{Option, some}
@@ -12,7 +13,7 @@ use native.Mathlib.Omega.{arith}
 use lib.Dec.{T, lit<, leb, eqb, T-not, not-T}
 use lib.ListN.{length, length-append}
 use lib.Pow.{pow-pos}
-use Rattle.graph.specs.Decide.{Decides, not-test, eq-test, own-test, read-as, same-test, is-true, true-is, false-is, test-true, test-false, T-or-right, by-test, some-of, some-test, some-same, answer}
+use Rattle.graph.specs.Decide.{Decides, and-test, or-test, not-test, eq-test, own-test, read-as, same-test, is-true, true-is, false-is, test-true, test-false, T-or-right, by-test, some-of, some-test, some-same, answer}
 use Rattle.graph.specs.Lists.{_∈_, here, only, only-from, only-keeps, before-from-only, Once, once-if, strike, strike-keeps, strike-from, strike-once}
 use Rattle.graph.specs.Walk.{Via, one, step}
 use Rattle.graph.specs.Reach.{reach, reach-test}
@@ -20,18 +21,23 @@ use Rattle.marks.specs.Marks.{bit, upto}
 use Rattle.marks.specs.MarkLaws.{getD-tab, tab-member, upto-has, upto-from, bit-zero, bit-others}
 use Rattle.marks.specs.Words.{marked, empty}
 use Rattle.marks.specs.WordLaws.{Fit, empty-test}
-use Rattle.history.specs.Events.{Kind, write, kinds, kinds-clash, alters, does, opening, ending, Event, History, has, opened, ended, abandoned, kept, open-now}
+use Rattle.history.specs.Events.{Kind, read, write, add, kinds, kinds-clash, alters, does, opening, ending, Event, History, has, opened, ended, abandoned, kept, open-now}
 use Rattle.history.specs.Replies.{cells, most-open, numbers, Request, Want, an-open, a-step, an-end, an-abandon, a-publish, nothing, want, first-of, tests, code-of, event-of, granted-of}
-use Rattle.history.specs.Memory.{Memory, fresh, touches, same-kind, same-deed, step-in, blank, fold, right, open-in, move, move-all, below, held}
+use Rattle.history.specs.Memory.{Footprint, Memory, fresh, touches, same-deed, step-in, blank, fold, right, open-in, move, move-all, below, held}
+use Rattle.history.specs.MemoryLaws.{every-kind, kind-test}
 use Rattle.history.specs.TurnLaws.{has-test, open-opened, orderly}
 use Rattle.history.specs.TimeLaws.{meets-does, opening-own, ending-own, ending-leads, opening-leads, past-ended}
 use Rattle.history.specs.Granted.{below-bound, passed}
 use Rattle.history.specs.Exact.{Agree, agree-code, Beside, below-has}
-use Rattle.held.specs.Held.{Held, fresh-held, word-marks, set-words, row-words, past-place, number-at, leads-at, word-at, open-at, open-slots, set-place, set-at, cell-at, own-at, past-at, first-in, is-some, at-slot, slot-of, meets, touched, chain-back, altered, facts, has-past, opened-at, stepped-at, left-at, takes-over, ended-at, abandoned-at, with-slot, free-slot, moved, after}
+use Rattle.held.specs.Held.{Held, fresh-held, word-marks, set-words, row-words, past-place, number-at, leads-at, word-at, open-at, open-slots, Aspect, as-used, as-altered, aspects, shows, clash-shows, set-place, set-at, cell-at, own-at, past-at, first-in, is-some, at-slot, slot-of, meets, touched, chain-back, altered, facts, has-past, opened-at, stepped-at, left-at, takes-over, ended-at, abandoned-at, with-slot, free-slot, moved, after}
 use Rattle.held.specs.HeldMoves.{number-opened, number-left, Fits, fresh-fits, opened-fits, stepped-fits, left-fits}
-use Rattle.held.specs.HeldLaws.{set-end, slot-from, slot-if, slots-once, slots-full, slots-opened, slots-stepped, slots-left, opened-open-at, opened-leads-at, opened-own-at, opened-past-at, stepped-leads-at, stepped-own-at, stepped-past-at, left-leads-at, left-own-at, left-past-at}
+use Rattle.held.specs.HeldLaws.{set-end, every-aspect, slot-from, slot-if, slots-once, slots-full, slots-opened, slots-stepped, slots-left, opened-open-at, opened-leads-at, opened-own-at, opened-past-at, stepped-leads-at, stepped-own-at, stepped-past-at, left-leads-at, left-own-at, left-past-at}
 
 -- ---- what is meant
+
+-- some step that shows the aspect was done on the cell
+abbrev pub shown : Footprint → Aspect → ℕ → Bool
+shown f a c = some-of (λ k. shows k a && f (does k) c) kinds
 
 pub record Seen (st : Held) (m : Memory) : Type 0 where
   pub next : st .next ≡ m .next
@@ -40,12 +46,66 @@ pub record Seen (st : Held) (m : Memory) : Type 0 where
   pub a-job : (i : ℕ) → i ∈ open-slots st → number-at st i ∈ m .jobs
   pub a-slot : (j : ℕ) → j ∈ m .jobs → (i : ℕ) × (i ∈ open-slots st) × (number-at st i ≡ j)
   pub count : length (open-slots st) ≡ length (m .jobs)
-  -- the reads and writes of own and past of an open slot are those of its job, and so are its leads. Openings and ends are not held
-  pub own : (i : ℕ) → i ∈ open-slots st → (k : Kind) (c : ℕ) → c < cells → own-at st i k c ≡ m .own (number-at st i) (does k) c
-  pub past : (i : ℕ) → i ∈ open-slots st → (k : Kind) (c : ℕ) → c < cells → past-at st i k c ≡ m .past (number-at st i) (does k) c
+  -- the used and the altered cells of own and past of an open slot are those that the reads, writes and adds of its job show, and its leads are its job's.
+  -- Openings and ends are not held
+  pub own : (i : ℕ) → i ∈ open-slots st → (a : Aspect) (c : ℕ) → c < cells → own-at st i a c ≡ shown (m .own (number-at st i)) a c
+  pub past : (i : ℕ) → i ∈ open-slots st → (a : Aspect) (c : ℕ) → c < cells → past-at st i a c ≡ shown (m .past (number-at st i)) a c
   pub leads : (i x : ℕ) → i ∈ open-slots st → x ∈ open-slots st → bit (leads-at st i) x ≡ m .leads (number-at st i) (number-at st x)
   -- no word has a mark that is no cell
   pub fits : Fits st
+
+-- ---- what is shown of footprints
+
+shown-test : (f : Footprint) (a : Aspect) (c : ℕ) → Decides (shown f a c) ((k : Kind) × (k ∈ kinds) × (T (shows k a) × T (f (does k) c)))
+shown-test f a c = some-test (λ k. and-test (own-test (shows k a)) (own-test (f (does k) c))) kinds
+
+-- by footprints that agree on reads, writes and adds, and by one that has none
+shown-same : (f g : Footprint) (a : Aspect) (c : ℕ) → ((k : Kind) → f (does k) c ≡ g (does k) c) → shown f a c ≡ shown g a c
+shown-same f g a c h = some-same (λ k. shows k a && f (does k) c) (λ k. shows k a && g (does k) c) kinds (λ k m. ap (λ (b : Bool). shows k a && b) (h k))
+
+shown-none : (f : Footprint) (a : Aspect) (c : ℕ) → ((k : Kind) → f (does k) c ≡ false) → shown f a c ≡ false
+shown-none f a c h = test-false (shown-test f a c) (λ r. false-is (h (r .0)) (r .2 .1))
+
+-- by one or the other, and where a test holds
+shown-or : (f g : Footprint) (a : Aspect) (c : ℕ) → shown (λ d x. f d x || g d x) a c ≡ shown f a c || shown g a c
+shown-or f g a c =
+    same-test (some-test (λ k. and-test (own-test (shows k a)) (or-test (own-test (f (does k) c)) (own-test (g (does k) c)))) kinds) (or-test (shown-test f a c) (shown-test g a c))
+    (λ r. ⊎-elim (λ x. inl (r .0, r .1, (r .2 .0, x))) (λ x. inr (r .0, r .1, (r .2 .0, x))) (r .2 .1))
+    (⊎-elim (λ r. (r .0, r .1, (r .2 .0, inl (r .2 .1)))) (λ r. (r .0, r .1, (r .2 .0, inr (r .2 .1)))))
+
+shown-and : (b : Bool) (f : Footprint) (a : Aspect) (c : ℕ) → shown (λ d x. b && f d x) a c ≡ b && shown f a c
+shown-and true f a c = refl
+shown-and false f a c = shown-none (λ d x. false) a c (λ k. refl)
+
+-- a step on cell c shows its aspects there
+shown-step : (f : Footprint) (b : Bool) (k : Kind) (c : ℕ) (a : Aspect) (x : ℕ)
+    → shown (λ e y. f e y || (b && (same-deed e (does k) && eqb y c))) a x ≡ shown f a x || (b && (shows k a && eqb x c))
+unfolding same-deed
+shown-step f b k c a x =
+    shown-or f (λ e y. b && (same-deed e (does k) && eqb y c)) a x
+    ∙ ap (λ (z : Bool). shown f a x || z)
+    (same-test
+    (some-test (λ l. and-test (own-test (shows l a)) (and-test (own-test b) (and-test (kind-test l k) (eq-test x c)))) kinds)
+    (and-test (own-test b) (and-test (own-test (shows k a)) (eq-test x c)))
+    (λ r. (r .2 .1 .0, (subst (λ (l : Kind). T (shows l a)) (r .2 .1 .1 .0) (r .2 .0), r .2 .1 .1 .1)))
+    (λ r. (k, every-kind k, (r .1 .0, (r .0, (refl, r .1 .1))))))
+
+-- one of two kinds uses the cell, and the other alters it
+clash-test : (k l : Kind) → Decides (kinds-clash k l) ((T (shows l as-altered) × T (shows k as-used)) ⊎ (T (shows l as-used) × T (shows k as-altered)))
+clash-test k l =
+    subst (λ (b : Bool). Decides b ((T (shows l as-altered) × T (shows k as-used)) ⊎ (T (shows l as-used) × T (shows k as-altered)))) (sym (clash-shows k l))
+    (or-test (and-test (own-test (shows l as-altered)) (own-test (shows k as-used))) (and-test (own-test (shows l as-used)) (own-test (shows k as-altered))))
+
+-- so the cells shown meet the steps that the footprint meets
+meets-shown : (f : Footprint) (k : Kind) (c : ℕ) → meets (shown f) k c ≡ Rattle.history.specs.Memory.meets f (does k) c
+unfolding meets
+meets-shown f k c =
+    same-test
+    (or-test (and-test (own-test (shows k as-altered)) (shown-test f as-used c)) (and-test (own-test (shows k as-used)) (shown-test f as-altered c)))
+    (some-test (λ l. and-test (own-test (f (does l) c)) (clash-test l k)) kinds)
+    (⊎-elim (λ r. (r .1 .0, r .1 .1, (r .1 .2 .1, inl (r .0, r .1 .2 .0)))) (λ r. (r .1 .0, r .1 .1, (r .1 .2 .1, inr (r .0, r .1 .2 .0)))))
+    (λ r. ⊎-elim (λ x. inl (x .0, (r .0, r .1, (x .1, r .2 .0)))) (λ x. inr (x .0, (r .0, r .1, (x .1, r .2 .0)))) (r .2 .1))
+    ∙ sym (meets-does f c k)
 
 -- ---- the first that passes, and the slot of a number
 
@@ -108,9 +168,9 @@ module _ (st : Held) (j : ℕ) where
 -- ---- a step's leads, seen through the slots
 
 -- sets that agree on a cell meet the same steps on it
-meets-same : (f g : Kind → ℕ → Bool) (k : Kind) (c : ℕ) → ((l : Kind) → f l c ≡ g l c) → meets f k c ≡ meets g k c
+meets-same : (f g : Aspect → ℕ → Bool) (k : Kind) (c : ℕ) → ((a : Aspect) → f a c ≡ g a c) → meets f k c ≡ meets g k c
 unfolding meets
-meets-same f g k c h = ap (λ (a : Kind → Bool). some-of (λ l. a l && kinds-clash l k) kinds) (fun-ext h)
+meets-same f g k c h = ap₂ (λ (x y : Bool). (shows k as-altered && x) || (shows k as-used && y)) (h as-used) (h as-altered)
 
 module _ {st : Held} {m : Memory} (seen : Seen st m) where
   -- slots are the same when their numbers are
@@ -120,13 +180,13 @@ module _ {st : Held} {m : Memory} (seen : Seen st m) where
   module _ (k : Kind) (s c : ℕ) (p : s ∈ open-slots st) (real : c < cells) where
     -- the slots that a step touches are those of the jobs that it touches
     touched-same : (i : ℕ) → i ∈ open-slots st → touched st k s c i ≡ touches m (does k) (number-at st s) c (number-at st i)
-    unfolding touched touches meets
+    unfolding touched touches
     touched-same i o =
         let j = number-at st i in
         ap₂ (λ (a b : Bool). a || b)
         (ap₂ (λ (a b : Bool). not a && b) (same-slot i s o p)
-        (meets-same (own-at st i) (λ l. m .own j (does l)) k c (λ l. seen .own i o l c real) ∙ sym (meets-does (m .own j) c k)))
-        (meets-same (past-at st i) (λ l. m .past j (does l)) k c (λ l. seen .past i o l c real) ∙ sym (meets-does (m .past j) c k))
+        (meets-same (own-at st i) (shown (m .own j)) k c (λ a. seen .own i o a c real) ∙ meets-shown (m .own j) k c))
+        (meets-same (past-at st i) (shown (m .past j)) k c (λ a. seen .past i o a c real) ∙ meets-shown (m .past j) k c)
 
     -- so held and new leads together are those of the memory after the step
     lead-same : (i x : ℕ) → i ∈ open-slots st → x ∈ open-slots st
@@ -189,7 +249,13 @@ set-or-cell {st} f i o p q =
     cell-test : Decides (some-of (cell-at st i o) (below cells)) ((c : ℕ) × (c ∈ below cells) × T (cell-at st i o c))
     cell-test = some-test (λ c. own-test (cell-at st i o c)) (below cells)
 
--- has the job a read or write in its past?
+-- a step of any kind shows one aspect or the other
+some-aspect : (k : Kind) → (a : Aspect) × T (shows k a)
+some-aspect read = (as-used, tt)
+some-aspect write = (as-used, tt)
+some-aspect add = (as-altered, tt)
+
+-- has the job a read, write or add in its past?
 abbrev pub any-past : Memory → ℕ → Bool
 any-past m j = some-of (λ k. some-of (λ c. m .past j (does k) c) (below cells)) kinds
 
@@ -198,21 +264,32 @@ module _ {st : Held} {m : Memory} (seen : Seen st m) where
   job-slot : (j : ℕ) → j ∈ m .jobs → SlotOf st j
   job-slot j o = let r = seen .a-slot j o in slot-there st j (r .1) (r .2)
 
-  -- a slot has a write exactly when its job has
+  -- a slot has altered a cell exactly when its job has a write or add
   altered-same : (s : ℕ) → s ∈ open-slots st → altered st s ≡ held right m .has-written (number-at st s)
   unfolding altered held
   altered-same s p =
-      ap (λ (a : Kind → Bool). some-of (λ k. alters k && a k) kinds)
-      (fun-ext (λ k. set-or-cell (seen .fits) s (set-place k) (slot-from st p .0) (omega (arith, set-end k))
-      ∙ some-same (own-at st s k) (m .own (number-at st s) (does k)) (below cells) (λ c r. seen .own s p k c (below-from c cells r))))
+      let own = m .own (number-at st s) in
+      set-or-cell (seen .fits) s (set-place as-altered) (slot-from st p .0) (lit< tt)
+      ∙ some-same (own-at st s as-altered) (shown own as-altered) (below cells) (λ c r. seen .own s p as-altered c (below-from c cells r))
+      ∙ same-test
+      (some-test (λ c. shown-test own as-altered c) (below cells))
+      (some-test (λ k. and-test (own-test (alters k)) (some-test (λ c. own-test (own (does k) c)) (below cells))) kinds)
+      (λ r. let z = r .2 in (z .0, z .1, (z .2 .0, (r .0, r .1, z .2 .1))))
+      (λ r. let z = r .2 .1 in (z .0, z .1, (r .0, r .1, (r .2 .0, z .2))))
 
-  -- and a past exactly when its job has a read or write in its past
+  -- and a past exactly when its job has a read, write or add in its past
   past-same : (i : ℕ) → i ∈ open-slots st → has-past st i ≡ any-past m (number-at st i)
   unfolding has-past
   past-same i p =
-      ap (λ (a : Kind → Bool). some-of a kinds)
-      (fun-ext (λ k. set-or-cell (seen .fits) i (past-place + set-place k) (slot-from st p .0) (omega (arith, set-end k))
-      ∙ some-same (past-at st i k) (m .past (number-at st i) (does k)) (below cells) (λ c r. seen .past i p k c (below-from c cells r))))
+      let past = m .past (number-at st i) in
+      some-same (λ a. not (empty (set-at st i (past-place + set-place a)))) (λ a. some-of (shown past a) (below cells)) aspects
+      (λ a n. set-or-cell (seen .fits) i (past-place + set-place a) (slot-from st p .0) (omega (arith, set-end a))
+      ∙ some-same (past-at st i a) (shown past a) (below cells) (λ c r. seen .past i p a c (below-from c cells r)))
+      ∙ same-test
+      (some-test (λ a. some-test (λ c. shown-test past a c) (below cells)) aspects)
+      (some-test (λ k. some-test (λ c. own-test (past (does k) c)) (below cells)) kinds)
+      (λ r. let z = r .2 .2 in (z .0, z .1, (r .2 .0, r .2 .1, z .2 .1)))
+      (λ r. let z = r .2 in let a = some-aspect (r .0) in (a .0, every-aspect (a .0), (z .0, z .1, (r .0, r .1, (a .1, z .2)))))
 
   -- a step closes a chain over slots exactly when it closes one over jobs
   chain-same : (k : Kind) (s c : ℕ) → s ∈ open-slots st → c < cells → chain-back st k s c ≡ held right m .closes k (number-at st s) c
@@ -270,8 +347,8 @@ seen-start first =
       a-job = λ i o. absurd (shut i o);
       a-slot = λ j o. absurd (List·Memᴰ·not-nil o);
       count = ap length (no-member (open-slots (fresh-held first)) shut);
-      own = λ i o k c real. absurd (shut i o);
-      past = λ i o k c real. absurd (shut i o);
+      own = λ i o a c real. absurd (shut i o);
+      past = λ i o a c real. absurd (shut i o);
       leads = λ i x o p. absurd (shut i o);
       fits = fresh-fits first;
     }
@@ -291,7 +368,7 @@ module _ {st : Held} {m : Memory} (seen : Seen st m) (k : Kind) (s c : ℕ) (p :
 
   -- a granted step keeps the rows and the memory alike
   pub seen-step : Seen (stepped-at st k s c) (step-in m (does k) (number-at st s) c)
-  unfolding stepped-at number-at step-in same-deed
+  unfolding stepped-at number-at step-in
   seen-step =
       record {
         next = seen .next;
@@ -299,9 +376,10 @@ module _ {st : Held} {m : Memory} (seen : Seen st m) (k : Kind) (s c : ℕ) (p :
         a-job = λ i o. seen .a-job i (was-open o);
         a-slot = λ j o. let r = seen .a-slot j o in (r .0, subst (λ (l : List ℕ). r .0 ∈ l) (sym (slots-stepped st k s c)) (r .1), r .2);
         count = ap length (slots-stepped st k s c) ∙ seen .count;
-        own = λ i o k′ c′ real′. stepped-own-at st k s c i (slot-from st (was-open o) .0) real k′ c′ real′
-            ∙ ap₂ (λ (a b : Bool). a || (b && (same-kind k′ k && eqb c′ c))) (seen .own i (was-open o) k′ c′ real′) (same-slot seen i s (was-open o) p);
-        past = λ i o k′ c′ real′. stepped-past-at st k s c i (slot-from st (was-open o) .0) real k′ c′ real′ ∙ seen .past i (was-open o) k′ c′ real′;
+        own = λ i o a c′ real′. stepped-own-at st k s c i (slot-from st (was-open o) .0) real a c′ real′
+            ∙ ap₂ (λ (x y : Bool). x || (y && (shows k a && eqb c′ c))) (seen .own i (was-open o) a c′ real′) (same-slot seen i s (was-open o) p)
+            ∙ sym (shown-step (m .own (number-at st i)) (eqb (number-at st i) (number-at st s)) k c a c′);
+        past = λ i o a c′ real′. stepped-past-at st k s c i (slot-from st (was-open o) .0) real a c′ real′ ∙ seen .past i (was-open o) a c′ real′;
         leads = λ i x o q. stepped-leads-at st k s c i (slot-from st (was-open o) .0) x
             ∙ ap (λ (b : Bool). bit (leads-at st i) x || (eqb x s && (b && touched st k s c i))) (is-true {b = open-at st i} (slot-from st (was-open o) .1))
             ∙ lead-same seen k s c p real i x (was-open o) (was-open q);
@@ -320,6 +398,13 @@ over u m j =
       past = λ i d c. m .past i d c || (u i && (m .own j d c || m .past j d c));
       leads = λ i x. m .leads i x || (u i && m .leads j x);
     }
+
+shown-over : (u : ℕ → Bool) (m : Memory) (j n : ℕ) (a : Aspect) (c : ℕ)
+    → shown (over u m j .past n) a c ≡ shown (m .past n) a c || (u n && (shown (m .own j) a c || shown (m .past j) a c))
+shown-over u m j n a c =
+    shown-or (m .past n) (λ d x. u n && (m .own j d x || m .past j d x)) a c
+    ∙ ap (λ (b : Bool). shown (m .past n) a c || b)
+    (shown-and (u n) (λ d x. m .own j d x || m .past j d x) a c ∙ ap (λ (b : Bool). u n && b) (shown-or (m .own j) (m .past j) a c))
 
 module _ {st : Held} {m : Memory} (seen : Seen st m) (once : Once (m .jobs)) (s : ℕ) (p : s ∈ open-slots st) where
   module _ (t u : ℕ → Bool) (same : (i : ℕ) → i ∈ open-slots st → (i ≡ s → ⊥) → t i ≡ u (number-at st i)) where
@@ -364,14 +449,19 @@ module _ {st : Held} {m : Memory} (seen : Seen st m) (once : Once (m .jobs)) (s 
               let ne : (r .0 ≡ s) → ⊥ = λ e. f .1 (sym (r .2) ∙ ap (number-at st) e) in
               (r .0, slot-kept (r .1) ne, number-kept (r .1) ne ∙ r .2);
           count = ap length (slots-left st t s) ∙ shorter;
-          own = λ i o k c real.
+          own = λ i o a c real.
               let q = other-slot o in
-              blanked (λ n. m .own n (does k) c) o (left-own-at st t s i (slot-from st (q .0) .0) k c real) (seen .own i (q .0) k c real);
-          past = λ i o k c real.
+              let n = number-at (left-at st t s) i in
+              blanked (λ n. shown (m .own n) a c) o (left-own-at st t s i (slot-from st (q .0) .0) a c real) (seen .own i (q .0) a c real)
+              ∙ sym (shown-and (not (eqb n j)) (m .own n) a c);
+          past = λ i o a c real.
               let q = other-slot o in
-              blanked (λ n. m .past n (does k) c || (u n && (m .own j (does k) c || m .past j (does k) c))) o (left-past-at st t s i (slot-from st (q .0) .0) k c real)
-              (ap₂ (λ (a b : Bool). a || b) (seen .past i (q .0) k c real)
-              (ap₂ (λ (a b : Bool). a && b) (same i (q .0) (q .1)) (ap₂ (λ (a b : Bool). a || b) (seen .own s p k c real) (seen .past s p k c real))));
+              let n = number-at (left-at st t s) i in
+              blanked (λ n. shown (over u m j .past n) a c) o (left-past-at st t s i (slot-from st (q .0) .0) a c real)
+              (ap₂ (λ (a b : Bool). a || b) (seen .past i (q .0) a c real)
+              (ap₂ (λ (a b : Bool). a && b) (same i (q .0) (q .1)) (ap₂ (λ (a b : Bool). a || b) (seen .own s p a c real) (seen .past s p a c real)))
+              ∙ sym (shown-over u m j (number-at st i) a c))
+              ∙ sym (shown-and (not (eqb n j)) (over u m j .past n) a c);
           leads = λ i x o q.
               let a = other-slot o in
               let b = other-slot q in
@@ -409,7 +499,7 @@ module _ {st : Held} {m : Memory} (seen : Seen st m) (once : Once (m .jobs)) (s 
       none-over j =
           λ d. record { next = m .next; jobs = m .jobs; own = m .own; past = λ i e c. or-false (m .past i e c) d; leads = λ i x. or-false (m .leads i x) d }
 
--- the mark of a job's end is no read, no write and no lead: the rows are the memory with it too
+-- the mark of a job's end is no read, write or add and no lead: the rows are the memory with it too
 seen-marked : {st : Held} {m : Memory} → Seen st m → (j : ℕ) → Seen st (step-in m ending j 0)
 unfolding step-in
 seen-marked {st} {m} seen j =
@@ -419,7 +509,9 @@ seen-marked {st} {m} seen j =
       a-job = seen .a-job;
       a-slot = seen .a-slot;
       count = seen .count;
-      own = λ i o k c real. seen .own i o k c real ∙ sym (ending-own m j (number-at st i) k c);
+      own = λ i o a c real.
+          let n = number-at st i in
+          seen .own i o a c real ∙ sym (shown-same (step-in m ending j 0 .own n) (m .own n) a c (λ k. ending-own m j n k c));
       past = seen .past;
       leads = λ i x o p. seen .leads i x o p ∙ sym (ending-leads m j (number-at st i) (number-at st x));
       fits = seen .fits;
@@ -445,7 +537,7 @@ pub record Unused (m : Memory) (n : ℕ) : Type 0 where
 abbrev pub opened-in : Memory → Memory
 opened-in m = step-in (open-in m (m .next)) opening (m .next) 0
 
--- its leads, told by reads and writes alone
+-- its leads, told by reads, writes and adds alone
 abbrev pub OpenLeads : Memory → Type 0
 OpenLeads m = (i x : ℕ) → opened-in m .leads i x ≡ m .leads i x || (eqb x (m .next) && any-past m i)
 
@@ -464,7 +556,7 @@ module _ {first : ℕ} {h : History} {m : Memory} (b : Beside first h m) where
         not-led = λ i. test-false (b .tells .leads i (m .next)) (λ r. unissued (r .to-open));
       }
 
-  -- an open makes those jobs lead to the new one that have a read or write in their past
+  -- an open makes those jobs lead to the new one that have a read, write or add in their past
   next-led : OpenLeads m
   next-led i x =
       let o = orderly h (b .sound .turns) in
@@ -560,11 +652,13 @@ module _ {st : Held} {m : Memory} (seen : Seen st m) (unused : Unused m (m .next
             (λ a. (s, new-open, new-number refl ∙ sym (List·Memᴰ·eq-of-singleton a)))
             (List·Memᴰ·append-cases (m .jobs) o);
         count = longer;
-        own = λ i o k c real.
-            filled (λ n. m .own n (does k) c) o (unused .no-own k c) (opened-own-at st s i (inside o) k c real) (λ q. seen .own i q k c real)
-            ∙ sym (opening-own (open-in m (m .next)) (m .next) (number-at (opened-at st s) i) k c);
-        past = λ i o k c real.
-            filled (λ n. m .past n (does k) c) o (unused .no-past k c) (opened-past-at st s i (inside o) k c real) (λ q. seen .past i q k c real);
+        own = λ i o a c real.
+            let n = number-at (opened-at st s) i in
+            filled (λ n. shown (m .own n) a c) o (shown-none (m .own (m .next)) a c (λ k. unused .no-own k c)) (opened-own-at st s i (inside o) a c real) (λ q. seen .own i q a c real)
+            ∙ sym (shown-same (opened-in m .own n) (m .own n) a c (λ k. opening-own (open-in m (m .next)) (m .next) n k c));
+        past = λ i o a c real.
+            filled (λ n. shown (m .past n) a c) o (shown-none (m .past (m .next)) a c (λ k. unused .no-past k c)) (opened-past-at st s i (inside o) a c real)
+            (λ q. seen .past i q a c real);
         leads = λ i x o q. led-same o q;
         fits = opened-fits (seen .fits) s;
       }

@@ -4,20 +4,21 @@
 -- A case is a first number, the requests each with the reply expected of it, the order of the history that they leave, the places of the
 -- steps, openings and ends in that order's layout, and whether it is the only order. The statement holds every reply, code and job, to what the full history
 -- gives and to what the bounded memory gives. What `only-one` means is proved in Promises (`tried`).
--- After them, 6 before 5 (`numbers-before-slots`), and the example of the rules, its bytes too (`rules-replies`, `rules-read`).
+-- After them, 6 before 5 (`numbers-before-slots`), what adds leave and show in a log and in a layout of it (`counted-log`, `counted-laid`), and the example of the rules, its bytes too (`rules-replies`, `rules-read`).
 -- Assumes nothing.
 use mathlib.Core.Path.{_≡_, refl, sym, ap, _∙_}
 use mathlib.Core.Bool.{Bool, true, false}
 use mathlib.Core.Option.{Option, none, some}
 use mathlib.Core.List.{List, [], _∷_, _++_, map, List·Memᴰ·head, List·Memᴰ·tail}
-use Prim.Native.Nat.{ℕ, zero, suc}
+use Prim.Native.Nat.{ℕ, zero, suc, _+_}
 use Rattle.graph.specs.Lists.{_∈_, strike}
 use Rattle.graph.specs.Reach.{circular}
 use Rattle.graph.specs.Listing.{ready, lowest-first, forced}
-use Rattle.history.specs.Events.{History, opened, ended, abandoned, kept, open-now, all-steps, kept-steps, wrote, conflict, precedes, has-circle}
+use Rattle.history.specs.Events.{write, does, History, Step, step-at, opened, ended, abandoned, kept, open-now, all-steps, kept-steps, wrote, conflict, precedes, has-circle}
 use Rattle.history.specs.Replies.{Request, Reply, want, tests, code-of, event-of, job-of, reply-of, granted-of, full, reply, after, replies, history-of}
 use Rattle.history.specs.Formats.{records}
 use Rattle.history.specs.Orders.{layout, order-of}
+use Rattle.history.specs.Run.{World, put, act-as, run, start, writes-at, last-write, adds-at, adds-since}
 use Rattle.history.specs.Memory.{fresh, meets, touches, same-kind, same-deed, step-in, blank, fold, right, open-in, move, held, held-replies}
 
 -- ---- requests and replies, short
@@ -37,6 +38,10 @@ end j = record { kind = 4; byte1 = 0; cell = 0; job = j }
 
 abbrev pub abandon : ℕ → Request
 abandon j = record { kind = 5; byte1 = 0; cell = 0; job = j }
+
+-- `adds 1 5`: job 1 adds to cell 5
+abbrev pub adds : ℕ → ℕ → Request
+adds j c = record { kind = 7; byte1 = 0; cell = c; job = j }
 
 abbrev pub publishes : ℕ → ℕ → Request
 publishes j c = record { kind = 6; byte1 = 0; cell = c; job = j }
@@ -379,7 +384,7 @@ two-faults =
       only-one = true;
     }
 
--- kind 7 is none, and for a publish too byte 1 is tested first and the cell before the job. Job 2's publish comes after job 1's read, and ends job 2 before job 3 is opened. So
+-- kind 8 is none, and for a publish too byte 1 is tested first and the cell before the job. Job 2's publish comes after job 1's read, and ends job 2 before job 3 is opened. So
 -- job 2's next publish gets 3, though it would close a circle too; and job 1 may not publish what 3 has read, but stays open
 abbrev pub published : Case
 published =
@@ -387,7 +392,7 @@ published =
       first = 1;
       exchanges =
           record { kind = 6; byte1 = 1; cell = 256; job = 9 } gets refused 1
-          ∷ record { kind = 7; byte1 = 0; cell = 256; job = 9 } gets refused 1
+          ∷ record { kind = 8; byte1 = 0; cell = 256; job = 9 } gets refused 1
           ∷ publishes 9 256 gets refused 2
           ∷ open-one gets granted 1 ∷ open-one gets granted 2
           ∷ reads 1 5 gets granted 1 ∷ publishes 2 5 gets granted 2
@@ -398,12 +403,84 @@ published =
       only-one = true;
     }
 
+-- jobs 1 and 2 each add to two cells, the one first to the one, the other first to the other: no conflict, and either order will do
+abbrev pub adds-alone : Case
+adds-alone =
+    record {
+      first = 1;
+      exchanges =
+          open-one gets granted 1 ∷ open-one gets granted 2
+          ∷ adds 1 5 gets granted 1 ∷ adds 2 5 gets granted 2
+          ∷ adds 2 6 gets granted 2 ∷ adds 1 6 gets granted 1 ∷ [];
+      order = some (1 ∷ 2 ∷ []);
+      laid-out = 0 ∷ 2 ∷ 5 ∷ 1 ∷ 3 ∷ 4 ∷ [];
+      only-one = false;
+    }
+
+-- for an add too byte 1 is tested first and the cell before the job; having added, a job cannot be abandoned
+abbrev pub adds-tested : Case
+adds-tested =
+    record {
+      first = 1;
+      exchanges =
+          record { kind = 7; byte1 = 1; cell = 256; job = 9 } gets refused 1
+          ∷ adds 9 256 gets refused 2 ∷ adds 9 255 gets refused 3
+          ∷ open-one gets granted 1 ∷ adds 1 255 gets granted 1 ∷ abandon 1 gets refused 4 ∷ [];
+      order = some (1 ∷ []);
+      laid-out = 0 ∷ 1 ∷ [];
+      only-one = true;
+    }
+
+-- an add and another job's read conflict, whichever is first: job 2 read what 1 had added to, so 1 may not add to what 2 has read, nor read what 2 has added to
+abbrev pub adds-and-reads : Case
+adds-and-reads =
+    record {
+      first = 1;
+      exchanges =
+          open-one gets granted 1 ∷ open-one gets granted 2
+          ∷ adds 1 5 gets granted 1 ∷ reads 2 5 gets granted 2
+          ∷ reads 2 6 gets granted 2 ∷ adds 1 6 gets refused 7
+          ∷ adds 2 7 gets granted 2 ∷ reads 1 7 gets refused 7 ∷ [];
+      order = some (1 ∷ 2 ∷ []);
+      laid-out = 0 ∷ 2 ∷ 1 ∷ 3 ∷ 4 ∷ 5 ∷ [];
+      only-one = true;
+    }
+
+-- and so do an add and another job's write
+abbrev pub adds-and-writes : Case
+adds-and-writes =
+    record {
+      first = 1;
+      exchanges =
+          open-one gets granted 1 ∷ open-one gets granted 2
+          ∷ adds 1 5 gets granted 1 ∷ writes 2 5 gets granted 2
+          ∷ writes 2 6 gets granted 2 ∷ adds 1 6 gets refused 7
+          ∷ adds 2 7 gets granted 2 ∷ writes 1 7 gets refused 7 ∷ [];
+      order = some (1 ∷ 2 ∷ []);
+      laid-out = 0 ∷ 2 ∷ 1 ∷ 3 ∷ 4 ∷ 5 ∷ [];
+      only-one = true;
+    }
+
+-- the add of an ended job gets 3, though it would close a circle too
+abbrev pub adds-ended : Case
+adds-ended =
+    record {
+      first = 1;
+      exchanges =
+          open-one gets granted 1 ∷ open-one gets granted 2
+          ∷ adds 1 5 gets granted 1 ∷ reads 2 5 gets granted 2 ∷ reads 2 6 gets granted 2
+          ∷ end 1 gets granted 1 ∷ adds 1 6 gets refused 3 ∷ [];
+      order = some (1 ∷ 2 ∷ []);
+      laid-out = 0 ∷ 2 ∷ 5 ∷ 1 ∷ 3 ∷ 4 ∷ [];
+      only-one = true;
+    }
+
 abbrev pub own-table : List Case
-own-table = past-of-ended ∷ leads-of-ended ∷ chain-abandoned ∷ reads-alone ∷ ended-apart ∷ time-abandoned ∷ cell-zero ∷ two-faults ∷ published ∷ []
+own-table = past-of-ended ∷ leads-of-ended ∷ chain-abandoned ∷ reads-alone ∷ ended-apart ∷ time-abandoned ∷ cell-zero ∷ two-faults ∷ published ∷ adds-alone ∷ adds-tested ∷ adds-and-reads ∷ adds-and-writes ∷ adds-ended ∷ []
 
 pub own-cases : (c : Case) → c ∈ own-table → computed c ≡ expected c
 unfolding computed
-own-cases c = rows computed expected (refl, (refl, (refl, (refl, (refl, (refl, (refl, (refl, (refl, tt)))))))))
+own-cases c = rows computed expected (refl, (refl, (refl, (refl, (refl, (refl, (refl, (refl, (refl, (refl, (refl, (refl, (refl, (refl, tt))))))))))))))
 
 -- ---- 6 before 5
 
@@ -415,6 +492,34 @@ full-and-spent = opens-from 32 4_294_967_264 ++ open-one gets refused 6 ∷ []
 pub numbers-before-slots : replies 4_294_967_264 (map (λ e. e .asked) full-and-spent) ≡ map (λ e. e .answered) full-and-spent
 unfolding reply reply-of code-of tests want job-of full after granted-of event-of opened ended abandoned kept open-now
 numbers-before-slots = refl
+
+-- ---- adds in a run
+
+-- job 1 adds to cell 5 and writes it, jobs 3 and 2 add to it, job 4 reads it: places 4 to 8
+abbrev pub counted : History
+counted = history-of 1 (open-one ∷ open-one ∷ open-one ∷ open-one ∷ adds 1 5 ∷ writes 1 5 ∷ adds 3 5 ∷ adds 2 5 ∷ reads 4 5 ∷ [])
+
+-- of steps on cell 5: its last write, the places of the adds since, what it holds at the end and what job 4 has read, where each write and each add is of its own place as a number
+pub record Shown : Type 0 where
+  pub last : Option Step
+  pub since : List ℕ
+  pub left : ℕ
+  pub sight : List ℕ
+
+unfoldable pub shown : List Step → Shown
+unfolding put act-as writes-at adds-at
+shown s =
+    let w : World ℕ = run _+_ (λ a l. a .at) s (start (λ c. 100)) in
+    record { last = last-write 5 s; since = map (λ a. a .at) (adds-since 5 s); left = w .holds 5; sight = map (λ v. v .value) (w .seen 4) }
+
+-- the log, and its layout in the order 1, 2, 3, 4: the same write and the same adds since, in another order, and 5 + 6 + 7 in both
+pub counted-log : shown (kept-steps counted) ≡ record { last = some (step-at 5 (does write) 1 5); since = 6 ∷ 7 ∷ []; left = 18; sight = 18 ∷ [] }
+unfolding computed shown
+counted-log = refl
+
+pub counted-laid : shown (layout (kept-steps counted) (1 ∷ 2 ∷ 3 ∷ 4 ∷ [])) ≡ record { last = some (step-at 5 (does write) 1 5); since = 7 ∷ 6 ∷ []; left = 18; sight = 18 ∷ [] }
+unfolding computed shown
+counted-laid = refl
 
 -- ---- the example of the rules, R139
 

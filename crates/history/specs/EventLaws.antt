@@ -1,6 +1,6 @@
 -- The laws of events: which pairs clash, no job precedes itself, and the tests of conflict and of precedence decide them.
 --
--- In order: `altering`, `alters-before`, `alters-after`, `clash-parts`, `ending-calm`; `conflict-test`; a precedence from its two steps, and in another list of steps; `no-self`, `precedes-test`.
+-- In order: `altering`; what writes and adds clash with (`write-before` to `add-after`); `clash-parts`, `ending-calm`; `conflict-test`; a precedence from its two steps, and in another list of steps; `no-self`, `precedes-test`.
 -- Assumes nothing.
 use mathlib.Core.Path.{_≡_, refl, sym, ap, _∙_, subst}
 use mathlib.Core.Logic.{_⊎_, inl, inr, ⊎-elim}
@@ -9,38 +9,39 @@ use Prim.Native.Nat.{ℕ}
 use lib.Dec.{T}
 use Rattle.graph.specs.Decide.{Decides, and-test, or-test, not-test, read-as, eq-test, own-test, some-test}
 use Rattle.graph.specs.Lists.{_∈_, Before, first, after, before-nil, before-cons}
-use Rattle.history.specs.Events.{Kind, read, write, Deed, does, opening, ending, alters, alters-by, kinds-clash, clash, Step, Conflict, conflict, Precedes, precedes}
+use Rattle.history.specs.Events.{Kind, read, write, add, Deed, does, opening, ending, alters, alters-by, kinds-clash, clash, Step, Conflict, conflict, Precedes, precedes}
 
 -- ---- conflict
 
--- only a read or a write alters its cell
+-- only a step of a kind alters its cell
 pub altering : (d : Deed) → T (alters-by d) → (k : Kind) × (d ≡ does k) × T (alters k)
 altering (does k) t = (k, refl, t)
 altering opening t = absurd t
 altering ending t = absurd t
 
--- what alters its cell clashes with every read and write, after it and before it
-alters-clash : (k l : Kind) → T (alters k) → T (kinds-clash k l)
-alters-clash read l t = absurd t
-alters-clash write read t = tt
-alters-clash write write t = tt
+-- a write clashes with every read, write and add, before them and after them
+pub write-before : (k : Kind) → T (kinds-clash write k)
+write-before read = tt
+write-before write = tt
+write-before add = tt
 
-clash-alters : (k l : Kind) → T (alters l) → T (kinds-clash k l)
-clash-alters k read t = absurd t
-clash-alters read write t = tt
-clash-alters write write t = tt
+pub write-after : (k : Kind) → T (kinds-clash k write)
+write-after read = tt
+write-after write = tt
+write-after add = tt
 
-pub alters-before : (d : Deed) {e : Deed} {k : Kind} → e ≡ does k → T (alters-by d) → T (clash d e)
-alters-before d {k = k} q t =
-    let r = altering d t in
-    subst (λ (x : Deed). T (clash d x)) (sym q) (subst (λ (x : Deed). T (clash x (does k))) (sym (r .1)) (alters-clash (r .0) k (r .2)))
+-- and an add with all but adds
+pub add-before : (k : Kind) → (k ≡ add → ⊥) → T (kinds-clash add k)
+add-before read n = tt
+add-before write n = tt
+add-before add n = absurd (n refl)
 
-pub alters-after : (e : Deed) {d : Deed} {k : Kind} → d ≡ does k → T (alters-by e) → T (clash d e)
-alters-after e {k = k} q t =
-    let r = altering e t in
-    subst (λ (x : Deed). T (clash x e)) (sym q) (subst (λ (x : Deed). T (clash (does k) x)) (sym (r .1)) (clash-alters k (r .0) (r .2)))
+pub add-after : (k : Kind) → (k ≡ add → ⊥) → T (kinds-clash k add)
+add-after read n = tt
+add-after write n = tt
+add-after add n = absurd (n refl)
 
--- two deeds clash as a read or write and another, or as an end and an opening
+-- two deeds clash by their kinds, or as an end and an opening
 pub data Clashing : Deed → Deed → Type 0 where
   as-steps : {k l : Kind} → T (kinds-clash k l) → Clashing (does k) (does l)
   in-time : Clashing ending opening

@@ -1,8 +1,8 @@
 -- What was granted: events, the kept history, conflict, precedence, circle.
 --
--- A history is everything granted so far, the oldest first. A step is a granted read or write together with its place in the
+-- A history is everything granted so far, the oldest first. A step is a granted read, write or add together with its place in the
 -- history, so that two equal requests are two steps. The opening and the end of a job stand in the list of steps too: a job precedes
--- another by a conflict of their reads and writes, or because its end stands before the other's opening (`precedes-exactly` of Promises).
+-- another by a conflict of their reads, writes and adds, or because its end stands before the other's opening (`precedes-exactly` of Promises).
 -- Once a job is abandoned none of its steps counts as kept.
 -- Each relation stands here twice: as a proposition, to be believed, and as a test that computes, joined by a theorem in EventLaws.
 -- Assumes nothing.
@@ -18,39 +18,45 @@ use Rattle.graph.specs.Reach.{circular}
 
 -- ---- events
 
--- the kinds of steps
+-- the kinds of steps; an add raises what is in its cell
 pub data Kind : Type 0 where
-  read write : Kind
+  read write add : Kind
 
 abbrev pub kinds : List Kind
-kinds = read ∷ write ∷ []
+kinds = read ∷ write ∷ add ∷ []
 
 -- does a step of this kind change its cell, so that its job can no longer be abandoned?
 abbrev pub alters : Kind → Bool
 alters read = false
 alters write = true
+alters add = true
 
--- what a job does at a place of the history: a read or a write, its opening, its end
+-- what a job does at a place of the history: a read, a write or an add, its opening, its end
 pub data Deed : Type 0 where
   does : Kind → Deed
   opening ending : Deed
 
 abbrev pub deeds : List Deed
-deeds = does read ∷ does write ∷ opening ∷ ending ∷ []
+deeds = does read ∷ does write ∷ does add ∷ opening ∷ ending ∷ []
 
 abbrev pub alters-by : Deed → Bool
 alters-by (does k) = alters k
 alters-by opening = false
 alters-by ending = false
 
--- the table of clashes of reads and writes: at least one of the two is a write
+-- the table of clashes of reads, writes and adds: two reads change places, and two adds do; any other two do not
 abbrev pub kinds-clash : Kind → Kind → Bool
 kinds-clash read read = false
 kinds-clash read write = true
+kinds-clash read add = true
 kinds-clash write read = true
 kinds-clash write write = true
+kinds-clash write add = true
+kinds-clash add read = true
+kinds-clash add write = true
+kinds-clash add add = false
 
--- the table of clashes, the earlier of the two first: reads and writes by their kinds; an end and an opening after it; nothing else
+-- the table of clashes, the earlier of the two first: reads, writes and adds by their kinds; an end and an opening after it; nothing else
 abbrev pub clash : Deed → Deed → Bool
 clash (does k) (does l) = kinds-clash k l
 clash (does k) opening = false
@@ -121,7 +127,7 @@ open-now h = only (λ j. not (has (ended h) j)) (kept h)
 
 -- ---- steps
 
--- a granted read or write, an opening or an end, with its place in the history
+-- a granted read, write or add, an opening or an end, with its place in the history
 pub record Step : Type 0 where
   pub at : ℕ
   pub deed : Deed
@@ -151,7 +157,7 @@ all-steps h = steps-from zero h
 unfoldable pub kept-steps : History → List Step
 kept-steps h = only (λ s. not (has (abandoned h) (s .job))) (all-steps h)
 
--- has the job a granted write?
+-- has the job a granted write or add?
 unfoldable pub wrote : History → ℕ → Bool
 wrote h j = some-of (λ s. eqb (s .job) j && alters-by (s .deed)) (all-steps h)
 

@@ -26,7 +26,7 @@ use Rattle.history.specs.Granted.{Proper, ProperAfter, below-bound, gran
 
 -- ---- facts that agree
 
--- facts that agree where a code asks: whether a job has written only of open jobs, whether a step closes only of open jobs and real cells
+-- facts that agree where a code asks: whether a job has written or added only of open jobs, whether a step closes only of open jobs and real cells
 pub record Agree (f g : Facts) : Type 0 where
   pub is-open : (j : ℕ) → f .is-open j ≡ g .is-open j
   pub has-written : (j : ℕ) → T (g .is-open j) → f .has-written j ≡ g .has-written j

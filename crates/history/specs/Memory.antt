@@ -2,7 +2,7 @@
 --
 -- Three tables speak of each open job. own: the cells it has touched itself. past: the cells touched by ended jobs that it leads to, with
 -- nothing but ended jobs in between. leads: the open jobs that it leads to in that way. What lies behind another open job is left to that job,
--- which could still be abandoned. Tables of jobs that are not open are blank. Openings and ends stand in the tables as reads and writes do, on
+-- which could still be abandoned. Tables of jobs that are not open are blank. Openings and ends stand in the tables as reads, writes and adds do, on
 -- cell 0: so past has an end where the job leads to some ended job, and then it leads to every job that is opened.
 --
 -- The rule is four functions (`Rule`), so that a wrong build is another rule over the same memory (WrongBuilds of crate `refuted`).
@@ -15,7 +15,7 @@ use lib.ListN.{length}
 use Rattle.graph.specs.Decide.{some-of}
 use Rattle.graph.specs.Lists.{strike}
 use Rattle.graph.specs.Reach.{reach}
-use Rattle.history.specs.Events.{Kind, read, write, kinds, alters, Deed, does, opening, ending, deeds, clash, Event, opens, steps, ends, abandons, has}
+use Rattle.history.specs.Events.{Kind, read, write, add, kinds, alters, Deed, does, opening, ending, deeds, clash, Event, opens, steps, ends, abandons, has}
 use Rattle.history.specs.Replies.{cells, Request, Reply, Facts, reply-of, granted-of}
 
 -- which cells were touched, by what was done
@@ -45,8 +45,13 @@ touches m d j c i = (not (eqb i j) && meets (m .own i) d c) || meets (m .past i)
 unfoldable pub same-kind : Kind → Kind → Bool
 same-kind read read = true
 same-kind read write = false
+same-kind read add = false
 same-kind write read = false
 same-kind write write = true
+same-kind write add = false
+same-kind add read = false
+same-kind add write = false
+same-kind add add = true
 
 unfoldable pub same-deed : Deed → Deed → Bool
 same-deed (does k) (does l) = same-kind k l

@@ -10,7 +10,7 @@ use lib.Dec.{T, eqb}
 use Rattle.graph.specs.Decide.{Decides, and-test, or-test, not-test, eq-test, own-test, read-as, some-test}
 use Rattle.graph.specs.Lists.{_∈_, here, later, only, only-keeps, only-from, Before, before-nil, before-cons, before-left, before-right, before-in-left, before-across, before-append, before-only, before-from-only, strike, strike-keeps, strike-from}
 use Rattle.graph.specs.Walk.{Via, one, step, Any, carry, relax, join, cut, uncut, into, circle-passes}
-use Rattle.history.specs.Events.{Kind, read, write, kinds, Deed, does, opening, ending, deeds, clash, Step, Conflict, Precedes, Circular}
+use Rattle.history.specs.Events.{Kind, read, write, add, kinds, Deed, does, opening, ending, deeds, clash, Step, Conflict, Precedes, Circular}
 use Rattle.history.specs.EventLaws.{precedes-in}
 use Rattle.history.specs.Memory.{Footprint, Memory, meets, touches, same-kind, same-deed, step-in, blank, fold, open-in}
 use Rattle.history.specs.Tables.{Touched, Led, Own, Past, Leads, TellsOf}
@@ -20,25 +20,33 @@ use Rattle.history.specs.Tables.{Touched, Led, Own, Past, Leads, TellsOf
 pub every-kind : (k : Kind) → k ∈ kinds
 every-kind read = here
 every-kind write = later here
+every-kind add = later (later here)
 
 pub kind-test : (k l : Kind) → Decides (same-kind k l) (k ≡ l)
 unfolding same-kind
 kind-test read read = record { holds = λ t. refl; shows = λ e. tt }
 kind-test read write = record { holds = λ t. absurd t; shows = λ e. subst (λ (k : Kind). T (same-kind read k)) e tt }
+kind-test read add = record { holds = λ t. absurd t; shows = λ e. subst (λ (k : Kind). T (same-kind read k)) e tt }
 kind-test write read = record { holds = λ t. absurd t; shows = λ e. subst (λ (k : Kind). T (same-kind write k)) e tt }
 kind-test write write = record { holds = λ t. refl; shows = λ e. tt }
+kind-test write add = record { holds = λ t. absurd t; shows = λ e. subst (λ (k : Kind). T (same-kind write k)) e tt }
+kind-test add read = record { holds = λ t. absurd t; shows = λ e. subst (λ (k : Kind). T (same-kind add k)) e tt }
+kind-test add write = record { holds = λ t. absurd t; shows = λ e. subst (λ (k : Kind). T (same-kind add k)) e tt }
+kind-test add add = record { holds = λ t. refl; shows = λ e. tt }
 
 pub every-deed : (d : Deed) → d ∈ deeds
 every-deed (does read) = here
 every-deed (does write) = later here
-every-deed opening = later (later here)
-every-deed ending = later (later (later here))
+every-deed (does add) = later (later here)
+every-deed opening = later (later (later here))
+every-deed ending = later (later (later (later here)))
 
 -- a deed is the same as itself
 deed-same : (d : Deed) → T (same-deed d d)
 unfolding same-deed same-kind
 deed-same (does read) = tt
 deed-same (does write) = tt
+deed-same (does add) = tt
 deed-same opening = tt
 deed-same ending = tt
 

@@ -1,6 +1,6 @@
 -- Orders of a history in turn: an order is accepted exactly when every precedence goes forward in it; an accepted order shows every read
--- the same last write and leaves every cell with the same one; whatever the jobs compute, it shows every read the same value and leaves every
--- cell the same; an order exists exactly when there is no circle, and the lowest-first one is the least.
+-- the same last write and the same adds since and leaves every cell with the same ones; whatever the jobs compute, it shows every read the same value and leaves every
+-- cell the same, where raises can change places; an order exists exactly when there is no circle, and the lowest-first one is the least.
 -- Assumes nothing.
 use mathlib.Core.Path.{_≡_, sym, ap, _∙_}
 use mathlib.Core.Bool.{Bool, true, false, not}
@@ -13,14 +13,14 @@ use Rattle.graph.specs.Decide.{not-test, is-false}
 use Rattle.graph.specs.Lists.{_∈_, before-left, before-right, before-from-only, Once, once-if}
 use Rattle.graph.specs.Listing.{Forward, LowestFirst}
 use Rattle.graph.specs.ListingLaws.{lowest-forward, lowest-least, forward-no-circle, lowest-first-some, lowest-first-none, lowest-first-exists, lowest-first-is}
-use Rattle.history.specs.Events.{Kind, does, History, Step, has, abandoned, kept, all-steps, kept-steps, Precedes, Circular}
+use Rattle.history.specs.Events.{Kind, add, does, History, Step, has, abandoned, kept, all-steps, kept-steps, Precedes, Circular}
 use Rattle.history.specs.Turns.{Turns}
 use Rattle.history.specs.Orders.{layout, Accepted, order-of}
-use Rattle.history.specs.Run.{World, Program, run, start, last-write}
+use Rattle.history.specs.Run.{World, Program, Raise, AnyOrder, run, start, last-write, SameSources}
 use Rattle.history.specs.EventLaws.{precedes-test}
 use Rattle.history.specs.TurnLaws.{orderly, has-test, kept-from, kept-if, kept-steps-from}
 use Rattle.history.specs.LayoutLaws.{keeps-forward, forward-keeps, Rearranged, layout-rearranged}
-use Rattle.history.specs.RunLaws.{run-rearranged, last-write-rearranged, read-follows, run-kept}
+use Rattle.history.specs.RunLaws.{run-rearranged, sources-rearranged, follows-write, follows-sources, run-kept}
 
 module _ (h : History) (turns : Turns h) where
   -- a kept step's job is kept, and so both jobs of a precedence are
@@ -54,30 +54,33 @@ module _ (h : History) (turns : Turns h) where
     pub laid-out : Rearranged (kept-steps h) (layout (kept-steps h) o)
     laid-out = layout-rearranged (a .once) (λ x m. a .names (x .job) (step-kept x m)) (keeps-forward (a .keeps))
 
-    pub same-last-write : (c : ℕ) → last-write c (kept-steps h) ≡ last-write c (layout (kept-steps h) o)
-    same-last-write c = last-write-rearranged laid-out c
+    pub same-sources : (c : ℕ) → SameSources c (kept-steps h) (layout (kept-steps h) o)
+    same-sources c = sources-rearranged laid-out c
 
-    pub same-read : (r : Step) {k : Kind} → r .deed ≡ does k → (p q p′ q′ : List Step) → kept-steps h ≡ p ++ r ∷ q → layout (kept-steps h) o ≡ p′ ++ r ∷ q′ → last-write (r .cell) p ≡ last-write (r .cell) p′
-    same-read r is p q p′ q′ e e′ = read-follows steps-once laid-out r is p q p′ q′ e e′
+    pub same-read : (r : Step) {k : Kind} → r .deed ≡ does k → (k ≡ add → ⊥) → (p q p′ q′ : List Step) → kept-steps h ≡ p ++ r ∷ q → layout (kept-steps h) o ≡ p′ ++ r ∷ q′ → SameSources (r .cell) p p′
+    same-read r is n p q p′ q′ e e′ = follows-sources steps-once laid-out r is n p q p′ q′ e e′
 
-    module _ {ℓ} {X : Type ℓ} (f : Program X) (g : ℕ → X) where
+    pub same-write : (r : Step) {k : Kind} → r .deed ≡ does k → (p q p′ q′ : List Step) → kept-steps h ≡ p ++ r ∷ q → layout (kept-steps h) o ≡ p′ ++ r ∷ q′ → last-write (r .cell) p ≡ last-write (r .cell) p′
+    same-write r is p q p′ q′ e e′ = follows-write steps-once laid-out r is p q p′ q′ e e′
+
+    module _ {ℓ} {X : Type ℓ} (raise : Raise X) (law : AnyOrder raise) (f : Program X) (g : ℕ → X) where
       -- abandoned jobs only read, so the kept steps alone leave what the log leaves
-      log-kept : ((c : ℕ) → run f (kept-steps h) (start g) .holds c ≡ run f (all-steps h) (start g) .holds c) × ((j : ℕ) → T (not (has (abandoned h) j)) → run f (kept-steps h) (start g) .seen j ≡ run f (all-steps h) (start g) .seen j)
+      log-kept : ((c : ℕ) → run raise f (kept-steps h) (start g) .holds c ≡ run raise f (all-steps h) (start g) .holds c) × ((j : ℕ) → T (not (has (abandoned h) j)) → run raise f (kept-steps h) (start g) .seen j ≡ run raise f (all-steps h) (start g) .seen j)
       unfolding kept-steps
       log-kept =
           run-kept (λ j. not (has (abandoned h) j)) (all-steps h)
-          (λ x m t. is-false (orderly h turns .only-read x m (has-test (abandoned h) (x .job) .holds (denied (has (abandoned h) (x .job)) t)))) f (start g)
+          (λ x m t. is-false (orderly h turns .only-read x m (has-test (abandoned h) (x .job) .holds (denied (has (abandoned h) (x .job)) t)))) raise f (start g)
         where
           denied : (b : Bool) → T (not (not b)) → T b
           denied true t = tt
           denied false t = t
 
-      pub same-cells : (c : ℕ) → run f (layout (kept-steps h) o) (start g) .holds c ≡ run f (all-steps h) (start g) .holds c
-      same-cells c = ap (λ (w : World X). w .holds c) (sym (run-rearranged laid-out f (start g))) ∙ log-kept .0 c
+      pub same-cells : (c : ℕ) → run raise f (layout (kept-steps h) o) (start g) .holds c ≡ run raise f (all-steps h) (start g) .holds c
+      same-cells c = ap (λ (w : World X). w .holds c) (sym (run-rearranged laid-out raise law f (start g))) ∙ log-kept .0 c
 
-      pub same-sights : (j : ℕ) → j ∈ kept h → run f (layout (kept-steps h) o) (start g) .seen j ≡ run f (all-steps h) (start g) .seen j
+      pub same-sights : (j : ℕ) → j ∈ kept h → run raise f (layout (kept-steps h) o) (start g) .seen j ≡ run raise f (all-steps h) (start g) .seen j
       same-sights j m =
-          ap (λ (w : World X). w .seen j) (sym (run-rearranged laid-out f (start g)))
+          ap (λ (w : World X). w .seen j) (sym (run-rearranged laid-out raise law f (start g)))
           ∙ log-kept .1 j (not-test (has-test (abandoned h) j) .shows (kept-from h m .1))
 
   -- ---- which orders there are

@@ -18,29 +18,30 @@ use Rattle.graph.specs.Decide.{Decides, answer, test-true, test-false, eq-test,
 use Rattle.graph.specs.Lists.{_∈_, Before}
 use Rattle.graph.specs.Listing.{Forward, LowestFirst}
 use Rattle.graph.specs.ListingLaws.{lowest-only, forced-only}
-use Rattle.history.specs.Events.{Kind, write, does, opens, steps, ends, History, has, open-now, kept, Step, all-steps, kept-steps, Precedes, Circular, has-circle}
+use Rattle.history.specs.Events.{Kind, write, add, kinds-clash, Deed, does, opening, ending, clash, opens, steps, ends, History, has, open-now, kept, Step, step-at, all-steps, kept-steps, Precedes, Circular, has-circle}
 use Rattle.history.specs.Replies.{cells, most-open, Request, Reply, an-open, a-step, an-end, a-publish, want, tests, code-of, event-of, job-of, reply-of, granted-of, full, reply, after, replies, history-of}
 use Rattle.history.specs.ReplyLaws.{reply-for, OpenReply, open-reply, as-kind, publish-reply, after-granted, Alike, alike-reply, alike-granted}
 use Rattle.history.specs.Turns.{Turns}
 use Rattle.history.specs.Memory.{fresh, right, move-all, held-replies}
 use Rattle.history.specs.Tables.{Tells}
 use Rattle.history.specs.Orders.{layout, Keeps, Accepted, order-of}
-use Rattle.history.specs.Run.{Program, run, start, last-write}
+use Rattle.history.specs.Run.{Program, Raise, AnyOrder, run, start, last-write, SameSources}
 use Rattle.history.specs.Arbiters.{Arbiter, Exact, answers, of-memory, memory-answers}
 use Rattle.history.specs.Cases.{Case, requests-of, replies-of, is-only, computed, expected, Outcome, p-table, p-cases}
 use Rattle.history.specs.EventLaws.{precedes-test}
 use Rattle.history.specs.CircleLaws.{has-circle-test}
-use Rattle.history.specs.TurnLaws.{has-test}
+use Rattle.history.specs.TurnLaws.{has-test, kept-step, open-not-abandoned}
+use Rattle.history.specs.MemoryLaws.{calm-last}
 use Rattle.history.specs.MemoryTells.{tables-tell}
 use Rattle.history.specs.Granted.{passed, undenied, proper-step, still-open, is-open-now, granted-sound}
 use Rattle.history.specs.Exact.{exact}
 use Rattle.history.specs.LayoutLaws.{Onward, keeps-forward, forward-keeps}
-use Rattle.history.specs.OrderLaws.{accepted-forward, forward-accepted, same-last-write, same-read, same-cells, same-sights, accepted-no-circle, order-lowest, lowest-order, order-accepted, no-order-circle, order-exists, order-least}
+use Rattle.history.specs.OrderLaws.{accepted-forward, forward-accepted, same-sources, same-read, same-write, same-cells, same-sights, accepted-no-circle, order-lowest, lowest-order, order-accepted, no-order-circle, order-exists, order-least}
 use Rattle.history.specs.TimeLaws.{GoesKept, precedes-goes, goes-precedes, time-kept}
 
 -- ---- precedence and circles
 
--- a job precedes another exactly when neither is abandoned and, in the history as it was granted, a read or write of the one stands before a conflicting one of
+-- a job precedes another exactly when neither is abandoned and, in the history as it was granted, a read, write or add of the one stands before a conflicting one of
 -- the other (`by-steps` of Goes), or the one's end stands before the other's opening (`by-time`)
 pub precedes-exactly : (h : History) (i j : ℕ) → Precedes (kept-steps h) i j ↔ GoesKept h i j
 precedes-exactly h i j = (precedes-goes h, goes-precedes h)
@@ -172,14 +173,20 @@ keeps-exactly s o = (keeps-forward, forward-keeps)
 pub accepted-exactly : (h : History) → Turns h → (o : List ℕ) → Accepted h o ↔ Forward (Precedes (kept-steps h)) (kept h) o
 accepted-exactly h t o = (accepted-forward h t, forward-accepted h t)
 
--- then wherever a kept read or write r stands, in the log after p and in the layout after q, the last write of its cell is the same one, or none in both
-pub same-reads : (h : History) → Turns h → (o : List ℕ) → Accepted h o → (r : Step) (k : Kind) → r .deed ≡ does k → (p p′ q q′ : List Step)
-    → kept-steps h ≡ p ++ r ∷ p′ → layout (kept-steps h) o ≡ q ++ r ∷ q′ → last-write (r .cell) p ≡ last-write (r .cell) q
-same-reads h t o a r k is p p′ q q′ = same-read h t a r is p p′ q q′
+-- then wherever a kept read or write r stands, in the log after p and in the layout after q, the last write of its cell is the same one, or none in both, and the
+-- adds since are the same steps, in any order
+pub same-reads : (h : History) → Turns h → (o : List ℕ) → Accepted h o → (r : Step) (k : Kind) → r .deed ≡ does k → (k ≡ add → ⊥) → (p p′ q q′ : List Step)
+    → kept-steps h ≡ p ++ r ∷ p′ → layout (kept-steps h) o ≡ q ++ r ∷ q′ → SameSources (r .cell) p q
+same-reads h t o a r k is n p p′ q q′ = same-read h t a r is n p p′ q q′
 
--- and each cell ends with the same write
-pub same-ends : (h : History) → Turns h → (o : List ℕ) → Accepted h o → (c : ℕ) → last-write c (kept-steps h) ≡ last-write c (layout (kept-steps h) o)
-same-ends h t o a c = same-last-write h t a c
+-- of an add, as of a read or write, the last write before it is the same one; which adds stand between the two may differ, as adds change places
+pub same-before : (h : History) → Turns h → (o : List ℕ) → Accepted h o → (r : Step) (k : Kind) → r .deed ≡ does k → (p p′ q q′ : List Step)
+    → kept-steps h ≡ p ++ r ∷ p′ → layout (kept-steps h) o ≡ q ++ r ∷ q′ → last-write (r .cell) p ≡ last-write (r .cell) q
+same-before h t o a r k is p p′ q q′ = same-write h t a r is p p′ q q′
+
+-- and each cell ends with the same write and the same adds since
+pub same-ends : (h : History) → Turns h → (o : List ℕ) → Accepted h o → (c : ℕ) → SameSources c (kept-steps h) (layout (kept-steps h) o)
+same-ends h t o a c = same-sources h t a c
 
 -- ---- real time
 
@@ -189,14 +196,14 @@ real-time h t o a i j = time-kept h t a
 
 -- ---- what the auditor asked
 
--- whatever the jobs compute from what they have read, over values of any type and from any cells: run one at a time in an accepted order,
--- the jobs leave every cell as running the log did, and every read of a kept job shows the same value
-pub record AsTheLog {ℓ} (X : Type ℓ) (f : Program X) (g : ℕ → X) (h : History) (o : List ℕ) : Type ℓ where
-  pub cells : (c : ℕ) → run f (layout (kept-steps h) o) (start g) .holds c ≡ run f (all-steps h) (start g) .holds c
-  pub sights : (j : ℕ) → j ∈ kept h → run f (layout (kept-steps h) o) (start g) .seen j ≡ run f (all-steps h) (start g) .seen j
+-- whatever the jobs compute from what they have read, over values of any type and from any cells, and however an add raises a value, if two raises can change places:
+-- run one at a time in an accepted order, the jobs leave every cell as running the log did, and every read of a kept job shows the same value
+pub record AsTheLog {ℓ} (X : Type ℓ) (raise : Raise X) (f : Program X) (g : ℕ → X) (h : History) (o : List ℕ) : Type ℓ where
+  pub cells : (c : ℕ) → run raise f (layout (kept-steps h) o) (start g) .holds c ≡ run raise f (all-steps h) (start g) .holds c
+  pub sights : (j : ℕ) → j ∈ kept h → run raise f (layout (kept-steps h) o) (start g) .seen j ≡ run raise f (all-steps h) (start g) .seen j
 
-pub one-at-a-time {ℓ} : (h : History) → Turns h → (o : List ℕ) → Accepted h o → (X : Type ℓ) (f : Program X) (g : ℕ → X) → AsTheLog X f g h o
-one-at-a-time h t o a X f g = record { cells = same-cells h t a f g; sights = same-sights h t a f g }
+pub one-at-a-time {ℓ} : (h : History) → Turns h → (o : List ℕ) → Accepted h o → (X : Type ℓ) (raise : Raise X) → AnyOrder raise → (f : Program X) (g : ℕ → X) → AsTheLog X raise f g h o
+one-at-a-time h t o a X raise law f g = record { cells = same-cells h t a raise law f g; sights = same-sights h t a raise law f g }
 
 -- ---- the lowest-first order
 
@@ -232,6 +239,26 @@ granted-order first rs =
     let s = granted-sound first rs in
     let r = order-exists (history-of first rs) (s .turns) (s .no-circle) in
     (r .0, r .1, order-accepted (history-of first rs) (s .turns) (r .1))
+
+-- an add is never refused for adds: an open job's add to a real cell on which the other kept jobs have done nothing but adds is granted
+module _ (first : ℕ) (rs : List Request) (r : Request) (asks : want (r .kind) ≡ a-step add) (zero-byte : r .byte1 ≡ 0) where
+  abbrev so-far : History
+  so-far = history-of first rs
+
+  abbrev OnlyAdds : Type 0
+  OnlyAdds = (a : Step) → a ∈ kept-steps so-far → (a .job ≡ r .job → ⊥) → a .cell ≡ r .cell → (k : Kind) → a .deed ≡ does k → k ≡ add
+
+  pub add-granted : r .job ∈ open-now so-far → r .cell < cells → OnlyAdds → reply first so-far r .code ≡ 0
+  add-granted is-open real only-adds =
+      step-reply first so-far add r asks zero-byte is-open real .granted .0
+      (λ z. granted-sound first rs .no-circle
+      (calm-last (kept-steps so-far) (step-at (length so-far) (does add) (r .job) (r .cell)) (λ x m c. apart x (x .deed) refl (λ k. only-adds x m (c .others) (c .same-cell) k) (c .clashes))
+      (subst Circular (kept-step so-far (r .job) add (r .cell) (open-not-abandoned so-far is-open)) z)))
+    where
+      apart : (x : Step) (d : Deed) → x .deed ≡ d → ((k : Kind) → x .deed ≡ does k → k ≡ add) → T (clash d (does add)) → ⊥
+      apart x (does k) e f t = subst (λ (l : Kind). T (kinds-clash l add)) (f k e) t
+      apart x opening e f t = t
+      apart x ending e f t = t
 
 -- and never more than 32 jobs are open
 pub never-over : (first : ℕ) (rs : List Request) → length (open-now (history-of first rs)) ≤ most-open

@@ -1,6 +1,6 @@
 -- The reply of the full history to a request: the codes 0 to 7 with the order in which they are tested, for any first number.
 --
--- The codes ask five things of whoever answers (`Facts`): is the job open, has it a granted write, how many jobs are open, which
+-- The codes ask five things of whoever answers (`Facts`): is the job open, has it a granted write or add, how many jobs are open, which
 -- number is next, would the step close a circle. The order of the tests stands here once, over any facts; the full history, the
 -- bounded memory and the code differ only in where their facts come from.
 -- Assumes nothing.
@@ -9,7 +9,7 @@ use mathlib.Core.List.{List, [], _∷_, _++_}
 use Prim.Native.Nat.{ℕ, _+_}
 use lib.Dec.{leb, eqb}
 use lib.ListN.{length}
-use Rattle.history.specs.Events.{Kind, read, write, Event, opens, steps, ends, abandons, History, has, opened, open-now, wrote, kept-steps, has-circle}
+use Rattle.history.specs.Events.{Kind, read, write, add, Event, opens, steps, ends, abandons, History, has, opened, open-now, wrote, kept-steps, has-circle}
 
 -- ---- requests and replies
 
@@ -44,9 +44,9 @@ pub data Want : Type 0 where
   a-publish : Want
   nothing : Want
 
--- the kinds 1 to 6; the sixth, a publish, is a write of one cell and the end of its job in one request
+-- the kinds 1 to 7; the sixth, a publish, is a write of one cell and the end of its job in one request; the seventh is an add
 unfoldable pub want : ℕ → Want
-want n = cond (eqb n 1) an-open (cond (eqb n 2) (a-step read) (cond (eqb n 3) (a-step write) (cond (eqb n 4) an-end (cond (eqb n 5) an-abandon (cond (eqb n 6) a-publish nothing)))))
+want n = cond (eqb n 1) an-open (cond (eqb n 2) (a-step read) (cond (eqb n 3) (a-step write) (cond (eqb n 4) an-end (cond (eqb n 5) an-abandon (cond (eqb n 6) a-publish (cond (eqb n 7) (a-step add) nothing))))))
 
 -- ---- the codes
 
@@ -85,7 +85,7 @@ tests f an-abandon j c = (not (f .is-open j) gives 3) ∷ (f .has-written j give
 tests f a-publish j c = step-tests f write j c
 tests f nothing j c = (true gives 1) ∷ []
 
--- 1 before all: a byte 1 that is not zero, or a kind that is not 1 to 6
+-- 1 before all: a byte 1 that is not zero, or a kind that is not 1 to 7
 unfoldable pub code-of : Facts → Request → ℕ
 code-of f r = first-of ((not (eqb (r .byte1) 0) gives 1) ∷ tests f (want (r .kind)) (r .job) (r .cell))
 

@@ -2,9 +2,9 @@
 --
 -- In order: the steps of a history and its events; `Goes`: what makes a job precede another, said of the events alone, and that precedence is
 -- exactly that (`precedes-goes`, `goes-precedes`); a job that ended before another was opened stands before it in an accepted order (`time-kept`).
--- Of the memory: what a read or write, an opening and an end meet (`meets-does`, `meets-opening`, `meets-ending`), and that an opening and an end add
--- no read or write, an end no lead (`opening-own`, `ending-own`, `ending-leads`); an open job has no end among its own (`own-unended`), so that an opening
--- makes exactly those jobs lead to it whose past has an end (`opening-leads`); and a past has an end exactly when it has any read or write (`past-ended`).
+-- Of the memory: what a read, write or add, an opening and an end meet (`meets-does`, `meets-opening`, `meets-ending`), and that an opening and an end put down
+-- no read, write or add, an end no lead (`opening-own`, `ending-own`, `ending-leads`); an open job has no end among its own (`own-unended`), so that an opening
+-- makes exactly those jobs lead to it whose past has an end (`opening-leads`); and a past has an end exactly when it has any read, write or add (`past-ended`).
 -- Assumes nothing.
 use mathlib.Core.Path.{_≡_, refl, sym, ap, ap₂, _∙_, subst, subst₂}
 use mathlib.Core.Logic.{⊎-elim}
@@ -99,7 +99,7 @@ module _ (h : History) where
 
 -- ---- precedence, said of the events
 
--- what makes i precede j: a read or write of i before one of j on the same cell, at least one of them a write; or the end of i before the opening of j
+-- what makes i precede j: a read, write or add of i before one of j on the same cell, the two neither both reads nor both adds; or the end of i before the opening of j
 pub data Goes (h : History) (i j : ℕ) : Type 0 where
   by-steps : {k l : Kind} {c : ℕ} → T (kinds-clash k l) → Before (steps k i c) (steps l j c) h → Goes h i j
   by-time : Before (ends i) (opens j) h → Goes h i j
@@ -191,7 +191,7 @@ module _ (h : History) (turns : Turns h) {i j : ℕ} where
 -- ---- what a deed meets
 
 module _ (f : Footprint) (c : ℕ) where
-  -- a read or write meets reads and writes
+  -- a read, write or add meets reads, writes and adds
   pub meets-does : (k : Kind) → meets f (does k) c ≡ some-of (λ l. f (does l) c && kinds-clash l k) kinds
   meets-does k =
       same-test (meets-test (λ d n. own-test (f d n)) (does k) c) (some-test (λ l. and-test (own-test (f (does l) c)) (own-test (kinds-clash l k))) kinds)
@@ -226,7 +226,7 @@ none-or : (b x : Bool) → (b && false) || x ≡ x
 none-or true x = refl
 none-or false x = refl
 
--- an opening and an end add no read or write
+-- an opening and an end put down no read, write or add
 module _ (m : Memory) (j i : ℕ) where
   pub opening-own : (k : Kind) (c : ℕ) → step-in m opening j 0 .own i (does k) c ≡ m .own i (does k) c
   unfolding step-in same-deed
@@ -265,7 +265,7 @@ module _ {h : History} {m : Memory} (o : Orderly h) (t : Tells h m) where
   first-of-walk (one {q = y} p) g = (y, g, p)
   first-of-walk (step {m = y} p n w) g = (y, n, p)
 
-  -- and a past has an end exactly when it has a read or write: an open job leads to ended ones by a read or write alone
+  -- and a past has an end exactly when it has a read, write or add: an open job leads to ended ones by these alone
   pub past-ended : (i : ℕ) → m .past i ending 0 ≡ some-of (λ k. some-of (λ c. m .past i (does k) c) (below cells)) kinds
   past-ended i =
       same-test (t .past i ending 0) (some-test (λ k. some-test (λ c. t .past i (does k) c) (below cells)) kinds)

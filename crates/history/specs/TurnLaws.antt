@@ -293,7 +293,7 @@ not-both-ways (steps k n c) m o = List·Memᴰ·not-nil m
 not-both-ways (ends n) m o = List·Memᴰ·not-nil o
 not-both-ways (abandons n) m o = List·Memᴰ·not-nil m
 
--- a step that alters its cell is a write of its job
+-- a step that alters its cell is a write or add of its job
 pub wrote-if : (h : History) (a : Step) → a ∈ all-steps h → T (alters-by (a .deed)) → T (wrote h (a .job))
 unfolding wrote
 wrote-if h a m t = some-test (λ (x : Step). and-test (eq-test (x .job) (a .job)) (own-test (alters-by (x .deed)))) (all-steps h) .shows (a, m, (refl, t))

@@ -9,7 +9,7 @@ use Rattle.history.specs.Events.{Event, opens, steps, ends, abandons, Hi
 use Rattle.history.specs.Replies.{cells}
 
 -- an open is above all numbers opened before; a step, an end and an abandon are of a job that is open, a step on a real cell, and an
--- abandon of a job that has not written
+-- abandon of a job that has neither written nor added
 abbrev pub InTurn : History → Event → Type 0
 InTurn h (opens j) = (i : ℕ) → i ∈ opened h → i < j
 InTurn h (steps k j c) = (j ∈ open-now h) × (c < cells)

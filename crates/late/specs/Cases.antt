@@ -154,7 +154,7 @@ in-time =
       order = some (1 ∷ 3 ∷ []);
     }
 
--- kinds other than 1, 2, 5 get 1, and so does a byte 1 that is not zero
+-- kinds other than 1, 2, 5 get 1, an add too, and so does a byte 1 that is not zero
 abbrev pub kinds-refused : Case
 kinds-refused =
     record {
@@ -236,7 +236,7 @@ abbrev pub written-out : MadeUp → Left
 written-out m = record { answered = m .answered; left = first-rows (held-of (m .left)) }
 
 -- the lower of the two open slots with the number publishes. Slot 2, another job with the same number, has read cell 5, and slot 3 has cell 70 in its past: both come to lead to slot 1
--- and take over its reads and writes; slot 4 has read neither; slot 5 has read cell 5 and is not open
+-- and take over what it has used and altered; slot 4 has read neither; slot 5 has read cell 5 and is not open
 abbrev pub publish-hands-on : MadeUp
 publish-hands-on =
     record {
@@ -249,8 +249,8 @@ publish-hands-on =
           state 9 (2 ∷ 3 ∷ 4 ∷ [])
           (
           bare 7 [] ∷ blank
-          ∷ record { number = 7; leads = 4 ∷ []; own-reads = 5 ∷ []; own-writes = []; past-reads = 5 ∷ []; past-writes = 5 ∷ 70 ∷ [] }
-          ∷ with-past 8 (4 ∷ []) (5 ∷ []) (5 ∷ 70 ∷ []) ∷ with-own 6 [] (6 ∷ []) [] ∷ with-own 5 [] (5 ∷ []) [] ∷ []
+          ∷ record { number = 7; leads = 4 ∷ []; own-used = 5 ∷ []; own-altered = []; past-used = 5 ∷ 70 ∷ []; past-altered = 5 ∷ 70 ∷ [] }
+          ∷ with-past 8 (4 ∷ []) (5 ∷ 70 ∷ []) (5 ∷ 70 ∷ []) ∷ with-own 6 [] (6 ∷ []) [] ∷ with-own 5 [] (5 ∷ []) [] ∷ []
           );
     }
 
@@ -270,7 +270,7 @@ others-no-bar =
       before = state 9 (0 ∷ 1 ∷ []) (bare 7 (1 ∷ []) ∷ bare 8 (0 ∷ []) ∷ []);
       asked = publish 7 (3 ∷ []);
       answered = granted 7;
-      left = state 9 (1 ∷ []) (blank ∷ with-past 8 (1 ∷ []) [] (3 ∷ []) ∷ []);
+      left = state 9 (1 ∷ []) (blank ∷ with-past 8 (1 ∷ []) (3 ∷ []) (3 ∷ []) ∷ []);
     }
 
 abbrev pub made-up-table : List MadeUp

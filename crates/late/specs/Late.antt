@@ -46,7 +46,7 @@ closes-circle h j cs = has-circle (ended-steps (h ++ published j cs))
 
 -- ---- the codes
 
--- of the kinds 1 to 6 there are 1, 2 and 5, an open, a read and an abandon; any other is turned into 0, which is none
+-- of the kinds 1 to 7 there are 1, 2 and 5, an open, a read and an abandon; any other is turned into 0, which is none
 abbrev pub late-kind : ℕ → ℕ
 late-kind n = cond (eqb n 1) 1 (cond (eqb n 2) 2 (cond (eqb n 5) 5 0))
 

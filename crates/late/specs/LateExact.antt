@@ -65,7 +65,7 @@ beside-start first =
     }
 
 module _ {first : ℕ} {h : History} {m : Memory} (b : Beside first h m) where
-  -- an event other than a read or write: it was tested as in the first profile
+  -- an event other than a step: it was tested as in the first profile
   beside-event : (e : Event) → Proper (full first h) e → (Circular (ended-steps (h ++ e ∷ [])) → ⊥) → Beside first (h ++ e ∷ []) (move right m e)
   beside-event e p free =
       let s = b .sound in

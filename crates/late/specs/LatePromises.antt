@@ -1,5 +1,5 @@
 -- The promises of the second profile, one page. To be believed for them: Late, LateHeld, `LateSound` of LateExact, of history Events,
--- Replies, Turns and Orders, and `Ranges` and `Blank` of HeldBlank. The laws for the code are in LateLaws.
+-- Replies, Turns and Orders, and `Ranges` and `Blank` of HeldBlank.
 --
 -- In order: the rows answer as the full history does, an open and an abandon as in the first profile, and what the rows keep; what every history so granted
 -- has; the log with the jobs still open taken out; reads; publishes; refusals.

@@ -32,8 +32,8 @@ fn strike_mark(words: &mut [u64], at: usize)
 }
 
 // A row of `words` gains what a row of `others` has.
-fn join(words: &mut [u64; 4096], row: usize, others: &[u64; 4112], other: usize)
-    requires { ⌜ (row < 512) × (other < 514) ⌝ }
+fn join(words: &mut [u64; 4096], row: usize, others: &[u64; 6160], other: usize)
+    requires { ⌜ (row < 512) × (other < 770) ⌝ }
     ensures { λ _. ⌜ Joined row other (now (others .entry)) (now (words .entry)) (now (words .exit)) ⌝ }
 {
     let all = &mut words[..];
@@ -85,23 +85,25 @@ fn common_mark(rows: &[u64; 4096], row: usize, words: &[u64; 8]) -> usize
 // ---- who precedes whom
 
 // A job gains what the rows have that a step at this row looks at.
-fn join_before(preds: &mut [u64; 4096], job: usize, seen: &[u64; 4112], row: usize)
-    requires { ⌜ (job < 512) × (row < 514) ⌝ }
+fn join_before(preds: &mut [u64; 4096], job: usize, seen: &[u64; 6160], row: usize)
+    requires { ⌜ (job < 512) × (row < 770) ⌝ }
     ensures { λ _. ⌜ Gained job row (now (seen .entry)) (now (preds .entry)) (now (preds .exit)) ⌝ }
 {
-    if row < 256 {
-        join(preds, job, seen, row + 256);
+    if row < 768 {
+        let cell = row % 256;
+        if 256 <= row {
+            join(preds, job, seen, cell);
+        }
+        join(preds, job, seen, cell + 256);
+        if row < 512 {
+            join(preds, job, seen, cell + 512);
+        }
         return;
     }
-    if row < 512 {
-        join(preds, job, seen, row - 256);
-        join(preds, job, seen, row);
+    if row != 768 {
         return;
     }
-    if row != 512 {
-        return;
-    }
-    join(preds, job, seen, 513);
+    join(preds, job, seen, 769);
 }
 
 // The predecessors of each job, from the first n records.
@@ -111,13 +113,13 @@ fn gather(told: &[u32; 4096], n: usize, states: &[u8; 512], preds: &mut [u64; 40
 {
     let steps = &told[..];
     let stand = &states[..];
-    let mut seen: [u64; 4112] = [0; 4112];
+    let mut seen: [u64; 6160] = [0; 6160];
     let mut i: usize = 0;
     while i < n {
         let step = steps[i];
         if step != 0 {
-            let job = ((step - 1) / 514 % 512) as usize;
-            let row = ((step - 1) % 514) as usize;
+            let job = ((step - 1) / 770 % 512) as usize;
+            let row = ((step - 1) % 770) as usize;
             if stand[job] != 4 {
                 join_before(preds, job, &seen, row);
                 put_mark(&mut seen, row * 512 + job);

@@ -5,8 +5,9 @@ ghost use mathlib.Core.List.{List};
 ghost use Prim.Native.Nat.{ℕ, _≤_, _<_};
 ghost use lib.Dec.{leb};
 ghost use lib.ListN.{replicate};
-ghost use Rattle.history.specs.Events.{History};
-ghost use Rattle.tallies.specs.Jobs.{Padded, Rises, Finds, Taken, Takes};
+ghost use Rattle.history.specs.Events.{History, Kind};
+ghost use Rattle.verdicts.specs.Logs.{kind-number};
+ghost use Rattle.tallies.specs.Jobs.{Padded, Rises, Finds, first-row, Taken, Takes};
 ghost use Rattle.logs.specs.Logs.{request, halved, there, searched, Reads, Cleared};
 use reader::Next;
 use reader::Record;
@@ -72,8 +73,8 @@ pub fn find_job(numbers: &[u32; 512], count: usize, job: u32) -> usize
     find(numbers, count, job)
 }
 
-// An open, a read, a write or an end is told as its job's place times 514, plus its row, plus 1; an abandon as 0. The rows are the reads of cells 0 to 255, then the
-// writes of those, then all opens (512) and all ends (513).
+// An open, a read, a write, an add or an end is told as its job's place times 770, plus its row, plus 1; an abandon as 0. The rows are the reads of cells 0 to 255, then
+// the writes of those, then the adds, then all opens (768) and all ends (769).
 
 // What an open leaves: its fault, and how many jobs there are then.
 struct Took {
@@ -119,16 +120,16 @@ fn take_open(
     }
     all[count] = job;
     stand[count] = 1;
-    steps[place] = (count as u32) * 514 + 513;
+    steps[place] = (count as u32) * 770 + 769;
     Took {
         code: 0,
         count: count + 1,
     }
 }
 
-// A read or a write: its fault.
+// A read, a write or an add, by the first of the rows of its kind: its fault.
 fn take_step(
-    write: bool,
+    first: u32,
     job: u32,
     cell: u32,
     numbers: &[u32; 512],
@@ -137,9 +138,9 @@ fn take_step(
     count: usize,
     place: usize,
 ) -> u32
-    requires { ⌜ (count ≤ 512) × (place < 4096) ⌝ }
-    ensures { λ r. ⌜ ((h : History) → Taken h place (now (numbers .entry)) (now (states .entry)) (now (told .entry)) count
-        → Takes h place (request (cond write 3 2) 0 cell job) r (now (numbers .entry)) (now (states .exit)) (now (told .exit)) count) ⌝ }
+    requires { ⌜ (first ≤ 512) × (count ≤ 512) × (place < 4096) ⌝ }
+    ensures { λ r. ⌜ ((h : History) (k : Kind) → first ≡ first-row k → Taken h place (now (numbers .entry)) (now (states .entry)) (now (told .entry)) count
+        → Takes h place (request (kind-number k) 0 cell job) r (now (numbers .entry)) (now (states .exit)) (now (told .exit)) count) ⌝ }
 {
     let stand = &mut states[..];
     let steps = &mut told[..];
@@ -153,12 +154,10 @@ fn take_step(
     if 2 < stand[i] {
         return 13;
     }
-    let mut step = (i as u32) * 514 + cell + 1;
-    if write {
+    if first != 0 {
         stand[i] = 2;
-        step += 256;
     }
-    steps[place] = step;
+    steps[place] = (i as u32) * 770 + first + cell + 1;
     0
 }
 
@@ -189,7 +188,7 @@ fn take_end(
         return 13;
     }
     stand[i] = 3;
-    steps[place] = (i as u32) * 514 + 514;
+    steps[place] = (i as u32) * 770 + 770;
     0
 }
 
@@ -245,11 +244,11 @@ fn take_record(
     match kind {
         1 => take_open(job, cell, numbers, states, told, count, place),
         2 => Took {
-            code: take_step(false, job, cell, numbers, states, told, count, place),
+            code: take_step(0, job, cell, numbers, states, told, count, place),
             count: count,
         },
         3 => Took {
-            code: take_step(true, job, cell, numbers, states, told, count, place),
+            code: take_step(256, job, cell, numbers, states, told, count, place),
             count: count,
         },
         4 => Took {
@@ -258,6 +257,10 @@ fn take_record(
         },
         5 => Took {
             code: take_abandon(job, cell, numbers, states, count),
+            count: count,
+        },
+        7 => Took {
+            code: take_step(512, job, cell, numbers, states, told, count, place),
             count: count,
         },
         _ => Took {

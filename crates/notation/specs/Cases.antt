@@ -2,7 +2,8 @@
 -- from the definitions.
 --
 -- A row has the text or the log handed over and the bytes lent, and after `gets` the code and the place expected; after `leaving`, what the lent bytes then hold. Where a row says only `refused`, one byte is
--- lent and stays as it was. Texts are put down byte by byte, and the comment above a row has them as characters. Places count from 0: the bytes of a text for 26, its symbols for 12 to 14.
+-- lent and stays as it was. Texts are put down byte by byte, and the comment above a row has them as characters. Places count from 0: the bytes of a text for 26, its symbols
+-- or the log's records for 12 to 14 and 27.
 -- The limit of 4,096 symbols is too high to compute with: it is proved of any text (`eleven-exactly` of Promises).
 -- Assumes nothing.
 use mathlib.Core.Path.{_≡_, refl}
@@ -11,14 +12,14 @@ use Prim.Native.Nat.{ℕ}
 use lib.ListN.{replicate}
 use Rattle.graph.specs.Lists.{_∈_}
 use Rattle.text.specs.Decimal.{leading, decimal}
-use Rattle.history.specs.Events.{read, write, opens, steps, ends, abandons, History, opened, ended, abandoned, kept, open-now, all-steps, wrote}
+use Rattle.history.specs.Events.{read, write, add, opens, steps, ends, abandons, History, opened, ended, abandoned, kept, open-now, all-steps, wrote}
 use Rattle.history.specs.Replies.{want, event-of}
 use Rattle.history.specs.Cases.{rows}
 use Rattle.verdicts.specs.Logs.{ill-formed, out-of-turn, too-many, fault-of, read-log, log-of}
 use Rattle.blocks.specs.Blocks.{Filled, filled}
 use Rattle.notation.specs.Notation.{without-abandoned}
 use Rattle.notation.specs.Parse.{kind-of, with-cell, is-digit, goes-on, next, event-at, whole-at, grown, parse-end, parse}
-use Rattle.notation.specs.Answers.{import, export}
+use Rattle.notation.specs.Answers.{import, before-adds, export}
 
 -- ---- texts and logs
 
@@ -197,12 +198,23 @@ export-table =
     ∷ (9 ∷ replicate 7 0) refused 12 at 0
     ∷ log-of (opens 1 ∷ ends 2 ∷ []) refused 13 at 1
     ∷ log-of (opens 1 ∷ ends 2 ∷ []) into [] gets 13 at 1 leaving []
+    -- an add, of an open job and of an ended one: with much room and with none; after an abandoned job, whose records count
+    ∷ log-of (opens 1 ∷ steps add 1 5 ∷ []) into replicate 16 7 gets 27 at 1 leaving replicate 16 7
+    ∷ log-of (opens 1 ∷ steps add 1 5 ∷ ends 1 ∷ []) refused 27 at 1
+    ∷ log-of (opens 1 ∷ steps add 1 5 ∷ ends 1 ∷ []) into [] gets 27 at 1 leaving []
+    ∷ log-of (opens 1 ∷ abandons 1 ∷ opens 2 ∷ steps add 2 5 ∷ []) refused 27 at 3
+    -- the first of two, after a write
+    ∷ log-of (opens 1 ∷ opens 2 ∷ steps write 1 5 ∷ steps add 2 6 ∷ steps add 1 6 ∷ ends 1 ∷ []) refused 27 at 3
+    -- the rules for logs before it: a cell of an add, an end of a job that was never opened, an abandon of a job that added
+    ∷ log-of (opens 1 ∷ steps add 1 5 ∷ steps add 1 256 ∷ []) refused 12 at 2
+    ∷ log-of (opens 1 ∷ steps add 1 5 ∷ ends 2 ∷ []) refused 13 at 2
+    ∷ log-of (opens 1 ∷ steps add 1 5 ∷ abandons 1 ∷ []) refused 13 at 2
     ∷ []
 
 unfoldable pub made : Case → Filled
-unfolding export without-abandoned decimal leading filled read-log fault-of ill-formed out-of-turn too-many want event-of opened ended abandoned kept open-now all-steps wrote
+unfolding export before-adds without-abandoned decimal leading filled read-log fault-of ill-formed out-of-turn too-many want event-of opened ended abandoned kept open-now all-steps wrote
 made c = export (c .given) (c .lent)
 
 pub export-cases : (c : Case) → c ∈ export-table → export (c .given) (c .lent) ≡ c .expected
 unfolding made
-export-cases c = rows made (λ c. c .expected) (refl, (refl, (refl, (refl, (refl, (refl, (refl, (refl, (refl, (refl, (refl, (refl, (refl, (refl, (refl, tt)))))))))))))))
+export-cases c = rows made (λ c. c .expected) (refl, (refl, (refl, (refl, (refl, (refl, (refl, (refl, (refl, (refl, (refl, (refl, (refl, (refl, (refl, (refl, (refl, (refl, (refl, (refl, (refl, (refl, (refl, tt)))))))))))))))))))))))

@@ -12,7 +12,7 @@ use lib.Dec.{T}
 use lib.ListN.{length}
 use Rattle.graph.specs.Decide.{not-test, true-is}
 use Rattle.graph.specs.Lists.{_∈_, here, later, only, only-yes, only-no, only-append, only-keeps, only-from, only-all, only-length}
-use Rattle.history.specs.Events.{Event, opens, steps, ends, abandons, History, gather, opened-by, ended-by, abandoned-by, has, opened, ended, abandoned, open-now}
+use Rattle.history.specs.Events.{read, write, add, Event, opens, steps, ends, abandons, History, gather, opened-by, ended-by, abandoned-by, has, opened, ended, abandoned, open-now}
 use Rattle.history.specs.Turns.{InTurn, InTurnAfter, Turns}
 use Rattle.history.specs.TurnLaws.{has-test, kept-from, kept-if, open-from, open-if}
 use Rattle.verdicts.specs.LogLaws.{Sized, small-first}
@@ -154,11 +154,19 @@ Plain (steps k j c) = (j < 4_294_967_296) × (c < 256)
 Plain (ends j) = j < 4_294_967_296
 Plain (abandons j) = ⊥
 
-pub plain-sayable : (e : Event) → Plain e → Sayable e
-plain-sayable (opens j) p = p
-plain-sayable (steps k j c) p = let q = p .1 in (p .0, omega arith)
-plain-sayable (ends j) p = p
-plain-sayable (abandons j) p = p
+-- it can be said, unless it is an add
+pub plain-sayable : (e : Event) → ((j c : ℕ) → e ≡ steps add j c → ⊥) → Plain e → Sayable e
+plain-sayable (opens j) f p = p
+plain-sayable (steps read j c) f p = let q = p .1 in (p .0, omega arith)
+plain-sayable (steps write j c) f p = let q = p .1 in (p .0, omega arith)
+plain-sayable (steps add j c) f p = absurd (f j c refl)
+plain-sayable (ends j) f p = p
+plain-sayable (abandons j) f p = p
+
+-- what is left was there
+pub left-from : (h : History) (e : Event) → e ∈ without-abandoned h → e ∈ h
+unfolding without-abandoned
+left-from h e m = only-from (λ e. stays h (job-in e)) h m .0
 
 pub left-plain : (h : History) → Turns h → Sized h → (e : Event) → e ∈ without-abandoned h → Plain e
 unfolding without-abandoned

@@ -2,6 +2,7 @@ pub mod Notation
 pub mod Parse
 pub mod Answers
 pub mod Cases
+pub mod FirstAddLaws
 pub mod ParseLaws
 pub mod LeftOutLaws
 pub mod ReadLaws

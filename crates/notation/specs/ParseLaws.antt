@@ -18,9 +18,9 @@ use Rattle.graph.specs.Decide.{Decides, and-test, not-test, eq-test, le-test, l
 use Rattle.graph.specs.Lists.{_∈_, here, later}
 use Rattle.text.specs.Decimal.{glyph, leading, decimal}
 use Rattle.text.specs.DecimalLaws.{decimal-leading, decimal-digit}
-use Rattle.history.specs.Events.{Kind, read, write, Event, opens, steps, ends, abandons, History}
+use Rattle.history.specs.Events.{Kind, read, write, add, Event, opens, steps, ends, abandons, History}
 use Rattle.verdicts.specs.Logs.{kind-number}
-use Rattle.notation.specs.Notation.{letter, symbol, text-of, Sayable, Says, Form, Begins, Wrong, no-such-byte, stops-short}
+use Rattle.notation.specs.Notation.{on-cell, symbol, text-of, Sayable, Says, Form, Begins, Wrong, no-such-byte, stops-short}
 use Rattle.notation.specs.Parse.{Stand, stand, off, kind-of, with-cell, is-digit, goes-on, letter-next, job-next, cell-next, next, event-at, whole-at, grown, Parsed, wrong, says, parse-end, parse-from, parse}
 
 -- ---- a number in decimal, digit by digit
@@ -54,9 +54,29 @@ module _ (P : List ℕ → ℕ → Type 0) (limit : ℕ) (one : (d : ℕ) → d 
 
 -- ---- the stands that a reading comes to
 
+-- the steps that have a symbol
+data Way : Type 0 where
+  reading writing : Way
+
+abbrev kind : Way → Kind
+kind reading = read
+kind writing = write
+
+abbrev letter : Way → ℕ
+letter reading = 82
+letter writing = 87
+
+symbol-way : (k : Way) (j c : ℕ) → symbol (steps (kind k) j c) ≡ on-cell (letter k) j c
+symbol-way reading j c = refl
+symbol-way writing j c = refl
+
+sayable-way : (k : Way) {j c : ℕ} → (j < 4_294_967_296) × (c < 65_536) → Sayable (steps (kind k) j c)
+sayable-way reading f = f
+sayable-way writing f = f
+
 data Letter : Type 0 where
   for-open for-end : Letter
-  for-step : Kind → Letter
+  for-step : Way → Letter
 
 abbrev byte-of : Letter → ℕ
 byte-of for-open = 66
@@ -66,24 +86,24 @@ byte-of (for-step k) = letter k
 abbrev number-of : Letter → ℕ
 number-of for-open = 1
 number-of for-end = 4
-number-of (for-step k) = kind-number k
+number-of (for-step k) = kind-number (kind k)
 
 -- after a letter; in the digits of a job that say n; after `[`; in the digits of a cell; after `]`
 data Spot : Type 0 where
   start blank : Spot
   lettered : Letter → Spot
   in-job : Letter → ℕ → Spot
-  bracketed : Kind → ℕ → Spot
-  in-cell closed : Kind → ℕ → ℕ → Spot
+  bracketed : Way → ℕ → Spot
+  in-cell closed : Way → ℕ → ℕ → Spot
 
 abbrev at : Spot → Stand
 at start = stand 0 0 0 0
 at blank = stand 1 0 0 0
 at (lettered l) = stand 2 (number-of l) 0 0
 at (in-job l n) = stand 3 (number-of l) n 0
-at (bracketed k j) = stand 4 (kind-number k) j 0
-at (in-cell k j n) = stand 5 (kind-number k) j n
-at (closed k j n) = stand 6 (kind-number k) j n
+at (bracketed k j) = stand 4 (kind-number (kind k)) j 0
+at (in-cell k j n) = stand 5 (kind-number (kind k)) j n
+at (closed k j n) = stand 6 (kind-number (kind k)) j n
 
 -- the bytes of the symbol so far
 abbrev part : Spot → List ℕ
@@ -113,16 +133,16 @@ data Goes : Spot → ℕ → Spot → Type 0 where
   next-letter : (l : Letter) → Goes blank (byte-of l) (lettered l)
   first-digit : (l : Letter) {d : ℕ} → d < 10 → Goes (lettered l) (48 + d) (in-job l d)
   more-digits : (l : Letter) {n d : ℕ} → 0 < n → d < 10 → n * 10 + d < 4_294_967_296 → Goes (in-job l n) (48 + d) (in-job l (n * 10 + d))
-  bracket : (k : Kind) {j : ℕ} → Goes (in-job (for-step k) j) 91 (bracketed k j)
-  first-of-cell : (k : Kind) {j d : ℕ} → d < 10 → Goes (bracketed k j) (48 + d) (in-cell k j d)
-  more-of-cell : (k : Kind) {j n d : ℕ} → 0 < n → d < 10 → n * 10 + d < 65_536 → Goes (in-cell k j n) (48 + d) (in-cell k j (n * 10 + d))
-  close : (k : Kind) {j n : ℕ} → Goes (in-cell k j n) 93 (closed k j n)
+  bracket : (k : Way) {j : ℕ} → Goes (in-job (for-step k) j) 91 (bracketed k j)
+  first-of-cell : (k : Way) {j d : ℕ} → d < 10 → Goes (bracketed k j) (48 + d) (in-cell k j d)
+  more-of-cell : (k : Way) {j n d : ℕ} → 0 < n → d < 10 → n * 10 + d < 65_536 → Goes (in-cell k j n) (48 + d) (in-cell k j (n * 10 + d))
+  close : (k : Way) {j n : ℕ} → Goes (in-cell k j n) 93 (closed k j n)
 
 -- the symbol of e is whole
 data Whole : Spot → Event → Type 0 where
   whole-open : {n : ℕ} → Whole (in-job for-open n) (opens n)
   whole-end : {n : ℕ} → Whole (in-job for-end n) (ends n)
-  whole-step : (k : Kind) {j n : ℕ} → Whole (closed k j n) (steps k j n)
+  whole-step : (k : Way) {j n : ℕ} → Whole (closed k j n) (steps (kind k) j n)
 
 -- one byte more of the symbol
 part-goes : {x y : Spot} {b : ℕ} → Goes x b y → part y ≡ part x ++ b ∷ []
@@ -149,12 +169,12 @@ fit-goes g (close k) f = f
 part-whole : {x : Spot} {e : Event} → Whole x e → part x ≡ symbol e
 part-whole whole-open = refl
 part-whole whole-end = refl
-part-whole (whole-step k) = refl
+part-whole (whole-step k {j} {n}) = sym (symbol-way k j n)
 
 fit-whole : (g : History) {x : Spot} {e : Event} → Whole x e → Fit g x → Sayable e
 fit-whole g whole-open f = f
 fit-whole g whole-end f = f
-fit-whole g (whole-step k) f = f
+fit-whole g (whole-step k) f = sayable-way k f
 
 -- ---- the next stand is the move
 
@@ -188,22 +208,22 @@ next-goes : {x y : Spot} {b : ℕ} → Goes x b y → next (at x) b ≡ at y
 unfolding next kind-of with-cell
 next-goes (first-letter for-open) = refl
 next-goes (first-letter for-end) = refl
-next-goes (first-letter (for-step read)) = refl
-next-goes (first-letter (for-step write)) = refl
+next-goes (first-letter (for-step reading)) = refl
+next-goes (first-letter (for-step writing)) = refl
 next-goes (next-letter for-open) = refl
 next-goes (next-letter for-end) = refl
-next-goes (next-letter (for-step read)) = refl
-next-goes (next-letter (for-step write)) = refl
+next-goes (next-letter (for-step reading)) = refl
+next-goes (next-letter (for-step writing)) = refl
 next-goes (first-digit l {d} q) = ap₂ (λ (t : Bool) (m : ℕ). cond t (stand 3 (number-of l) m 0) off) (digit-yes d q) (digit-back d)
 next-goes (more-digits l {n} {d} p q r) = job-digit (number-of l) n d p q r
   where
     job-digit : (k n d : ℕ) → 0 < n → d < 10 → n * 10 + d < 4_294_967_296 → job-next k n (48 + d) ≡ stand 3 k (n * 10 + d) 0
     job-digit k n d p q r =
         both-yes (stand 3 k (n * 10 + (48 + d - 48)) 0) off _ (digit-yes d q) (goes-yes n d 4_294_967_296 p q r) ∙ ap (λ (m : ℕ). stand 3 k (n * 10 + m) 0) (digit-back d)
-next-goes (bracket read) = unfold is-digit in refl
-next-goes (bracket write) = unfold is-digit in refl
-next-goes (first-of-cell k {j} {d} q) = ap₂ (λ (t : Bool) (m : ℕ). cond t (stand 5 (kind-number k) j m) off) (digit-yes d q) (digit-back d)
-next-goes (more-of-cell k {j} {n} {d} p q r) = cell-digit (kind-number k) j n d p q r
+next-goes (bracket reading) = unfold is-digit in refl
+next-goes (bracket writing) = unfold is-digit in refl
+next-goes (first-of-cell k {j} {d} q) = ap₂ (λ (t : Bool) (m : ℕ). cond t (stand 5 (kind-number (kind k)) j m) off) (digit-yes d q) (digit-back d)
+next-goes (more-of-cell k {j} {n} {d} p q r) = cell-digit (kind-number (kind k)) j n d p q r
   where
     cell-digit : (k j n d : ℕ) → 0 < n → d < 10 → n * 10 + d < 65_536 → cell-next k j n (48 + d) ≡ stand 5 k j (n * 10 + d)
     cell-digit k j n d p q r =
@@ -220,8 +240,8 @@ event-whole : {x : Spot} {e : Event} → Whole x e → event-at (at x) ≡ e
 unfolding event-at
 event-whole whole-open = refl
 event-whole whole-end = refl
-event-whole (whole-step read) = refl
-event-whole (whole-step write) = refl
+event-whole (whole-step reading) = refl
+event-whole (whole-step writing) = refl
 
 -- ---- and no other
 
@@ -237,8 +257,8 @@ letters : (b : ℕ) → ((l : Letter) × (b ≡ byte-of l)) ⊎ (kind-of b ≡ 0
 unfolding kind-of
 letters b =
     ⊎-elim (λ e. inl (for-open, e))
-    (λ f. ⊎-elim (λ e. inl (for-step read, e))
-    (λ g. ⊎-elim (λ e. inl (for-step write, e))
+    (λ f. ⊎-elim (λ e. inl (for-step reading, e))
+    (λ g. ⊎-elim (λ e. inl (for-step writing, e))
     (λ h. ⊎-elim (λ e. inl (for-end, e))
     (λ i. inr (none-of-four (test-false (eq-test b 66) f) (test-false (eq-test b 82) g) (test-false (eq-test b 87) h) (test-false (eq-test b 69) i)))
     (answer (eq-test b 69))) (answer (eq-test b 87))) (answer (eq-test b 82))) (answer (eq-test b 66))
@@ -268,8 +288,8 @@ after-job : (l : Letter) (n b : ℕ) → is-digit b ≡ false → Move (in-job l
 unfolding next with-cell
 after-job for-open n b f = ⊎-elim (λ e. over (opens n) whole-open e) (λ g. refuses (both-no _ _ off f (test-false (eq-test b 32) g))) (answer (eq-test b 32))
 after-job for-end n b f = ⊎-elim (λ e. over (ends n) whole-end e) (λ g. refuses (both-no _ _ off f (test-false (eq-test b 32) g))) (answer (eq-test b 32))
-after-job (for-step read) n b f = ⊎-elim (λ e. along e (bracket read)) (λ g. refuses (both-no _ _ off f (test-false (eq-test b 91) g))) (answer (eq-test b 91))
-after-job (for-step write) n b f = ⊎-elim (λ e. along e (bracket write)) (λ g. refuses (both-no _ _ off f (test-false (eq-test b 91) g))) (answer (eq-test b 91))
+after-job (for-step reading) n b f = ⊎-elim (λ e. along e (bracket reading)) (λ g. refuses (both-no _ _ off f (test-false (eq-test b 91) g))) (answer (eq-test b 91))
+after-job (for-step writing) n b f = ⊎-elim (λ e. along e (bracket writing)) (λ g. refuses (both-no _ _ off f (test-false (eq-test b 91) g))) (answer (eq-test b 91))
 
 move : (x : Spot) (b : ℕ) → Move x b
 unfolding next
@@ -280,12 +300,12 @@ move (in-job l n) b =
     ⊎-elim
     (λ r. ⊎-elim (λ p. along (r .2) (more-digits l (p .0) (r .1) (p .1))) (λ f. refused-along (r .2) (yes-no (stand 3 (number-of l) (n * 10 + (48 + r .0 - 48)) 0) off _ (digit-yes (r .0) (r .1)) f)) (further n (r .0) 4_294_967_296 (r .1)))
     (after-job l n b) (digits b)
-move (bracketed k j) b = ⊎-elim (λ r. along (r .2) (first-of-cell k (r .1))) (λ f. refuses (ap (λ (t : Bool). cond t (stand 5 (kind-number k) j (b - 48)) off) f)) (digits b)
+move (bracketed k j) b = ⊎-elim (λ r. along (r .2) (first-of-cell k (r .1))) (λ f. refuses (ap (λ (t : Bool). cond t (stand 5 (kind-number (kind k)) j (b - 48)) off) f)) (digits b)
 move (in-cell k j n) b =
     ⊎-elim
-    (λ r. ⊎-elim (λ p. along (r .2) (more-of-cell k (p .0) (r .1) (p .1))) (λ f. refused-along (r .2) (yes-no (stand 5 (kind-number k) j (n * 10 + (48 + r .0 - 48))) off _ (digit-yes (r .0) (r .1)) f)) (further n (r .0) 65_536 (r .1)))
+    (λ r. ⊎-elim (λ p. along (r .2) (more-of-cell k (p .0) (r .1) (p .1))) (λ f. refused-along (r .2) (yes-no (stand 5 (kind-number (kind k)) j (n * 10 + (48 + r .0 - 48))) off _ (digit-yes (r .0) (r .1)) f)) (further n (r .0) 65_536 (r .1)))
     (λ f. ⊎-elim (λ e. along e (close k)) (λ g. refuses (both-no _ _ off f (test-false (eq-test b 93) g))) (answer (eq-test b 93))) (digits b)
-move (closed k j n) b = ⊎-elim (λ e. over (steps k j n) (whole-step k) e) (λ g. refuses (ap (λ (t : Bool). cond t (stand 1 0 0 0) off) (test-false (eq-test b 32) g))) (answer (eq-test b 32))
+move (closed k j n) b = ⊎-elim (λ e. over (steps (kind k) j n) (whole-step k) e) (λ g. refuses (ap (λ (t : Bool). cond t (stand 1 0 0 0) off) (test-false (eq-test b 32) g))) (answer (eq-test b 32))
 
 -- ---- the text of events, with a blank after each
 
@@ -377,7 +397,7 @@ module _ {u : List ℕ} {g : History} {x : Spot} (r : Reached u g x) where
 abbrev event-with : Letter → ℕ → Event
 event-with for-open j = opens j
 event-with for-end j = ends j
-event-with (for-step k) j = steps k j 0
+event-with (for-step k) j = steps (kind k) j 0
 
 -- the symbol that it may become, and what is missing
 abbrev whole-of : Spot → Event
@@ -385,9 +405,9 @@ whole-of start = opens 0
 whole-of blank = opens 0
 whole-of (lettered l) = event-with l 0
 whole-of (in-job l n) = event-with l n
-whole-of (bracketed k j) = steps k j 0
-whole-of (in-cell k j n) = steps k j n
-whole-of (closed k j n) = steps k j n
+whole-of (bracketed k j) = steps (kind k) j 0
+whole-of (in-cell k j n) = steps (kind k) j n
+whole-of (closed k j n) = steps (kind k) j n
 
 abbrev after-number : Letter → List ℕ
 after-number for-open = []
@@ -408,26 +428,26 @@ completed start = refl
 completed blank = refl
 completed (lettered for-open) = ap (λ (l : List ℕ). 66 ∷ l) (append-nil (decimal 0))
 completed (lettered for-end) = ap (λ (l : List ℕ). 69 ∷ l) (append-nil (decimal 0))
-completed (lettered (for-step k)) = refl
+completed (lettered (for-step k)) = sym (symbol-way k 0 0)
 completed (in-job for-open n) = ap (λ (l : List ℕ). 66 ∷ l) (append-nil (decimal n))
 completed (in-job for-end n) = ap (λ (l : List ℕ). 69 ∷ l) (append-nil (decimal n))
-completed (in-job (for-step k) n) = refl
-completed (bracketed k j) = ap (λ (l : List ℕ). letter k ∷ l) (append-assoc (decimal j) (91 ∷ []) (decimal 0 ++ (93 ∷ [])))
-completed (in-cell k j n) = ap (λ (l : List ℕ). letter k ∷ l) (append-assoc (decimal j) (91 ∷ decimal n) (93 ∷ []))
-completed (closed k j n) = append-nil (letter k ∷ (decimal j ++ (91 ∷ (decimal n ++ (93 ∷ [])))))
+completed (in-job (for-step k) n) = sym (symbol-way k n 0)
+completed (bracketed k j) = ap (λ (l : List ℕ). letter k ∷ l) (append-assoc (decimal j) (91 ∷ []) (decimal 0 ++ (93 ∷ []))) ∙ sym (symbol-way k j 0)
+completed (in-cell k j n) = ap (λ (l : List ℕ). letter k ∷ l) (append-assoc (decimal j) (91 ∷ decimal n) (93 ∷ [])) ∙ sym (symbol-way k j n)
+completed (closed k j n) = append-nil (on-cell (letter k) j n) ∙ sym (symbol-way k j n)
 
 fit-completed : (g : History) (x : Spot) → Fit g x → Sayable (whole-of x)
 fit-completed g start f = omega arith
 fit-completed g blank f = omega arith
 fit-completed g (lettered for-open) f = omega arith
 fit-completed g (lettered for-end) f = omega arith
-fit-completed g (lettered (for-step k)) f = (omega arith, omega arith)
+fit-completed g (lettered (for-step k)) f = sayable-way k (omega arith, omega arith)
 fit-completed g (in-job for-open n) f = f
 fit-completed g (in-job for-end n) f = f
-fit-completed g (in-job (for-step k) n) f = (f, omega arith)
-fit-completed g (bracketed k j) f = (f, omega arith)
-fit-completed g (in-cell k j n) f = f
-fit-completed g (closed k j n) f = f
+fit-completed g (in-job (for-step k) n) f = sayable-way k (f, omega arith)
+fit-completed g (bracketed k j) f = sayable-way k (f, omega arith)
+fit-completed g (in-cell k j n) f = sayable-way k f
+fit-completed g (closed k j n) f = sayable-way k f
 
 begins : {u : List ℕ} {g : History} {x : Spot} → Reached u g x → Begins u
 begins {u} {g} {x} r =
@@ -461,7 +481,7 @@ module _ {u : List ℕ} {g : History} where
       by-digits (λ (d : List ℕ) (n : ℕ). Reached (u ++ d) g (in-job l n)) 4_294_967_296 (λ d q. reached-goes r (first-digit l q))
       (λ k n d p q s t. subst (λ (i : List ℕ). Reached i g (in-job l (n * 10 + d))) (append-assoc u k ((48 + d) ∷ [])) (reached-goes t (more-digits l p q s)))
 
-  cell-read : (k : Kind) (j : ℕ) → Reached u g (bracketed k j) → (n : ℕ) → n < 65_536 → Reached (u ++ decimal n) g (in-cell k j n)
+  cell-read : (k : Way) (j : ℕ) → Reached u g (bracketed k j) → (n : ℕ) → n < 65_536 → Reached (u ++ decimal n) g (in-cell k j n)
   cell-read k j r =
       by-digits (λ (d : List ℕ) (n : ℕ). Reached (u ++ d) g (in-cell k j n)) 65_536 (λ d q. reached-goes r (first-of-cell k q))
       (λ i n d p q s t. subst (λ (m : List ℕ). Reached m g (in-cell k j (n * 10 + d))) (append-assoc u i ((48 + d) ∷ [])) (reached-goes t (more-of-cell k p q s)))
@@ -472,26 +492,31 @@ record Symbol (u : List ℕ) (g : History) (e : Event) : Type 0 where
   whole : Whole spot e
   reached : Reached (u ++ symbol e) g spot
 
+step-read : {u : List ℕ} {g : History} {x : Spot} → Starts x → Reached u g x → (k : Way) (j c : ℕ) → (j < 4_294_967_296) × (c < 65_536) → Symbol u g (steps (kind k) j c)
+step-read {u} {g} s r k j c f =
+    let a = job-read (for-step k) (letter-read s r (for-step k)) j (f .0) in
+    let b = cell-read k j (reached-goes a (bracket k)) c (f .1) in
+    record { spot = closed k j c; whole = whole-step k; reached = subst (λ (l : List ℕ). Reached l g (closed k j c)) (joined (letter k) (decimal j) (decimal c) ∙ ap (λ (l : List ℕ). u ++ l) (sym (symbol-way k j c))) (reached-goes b (close k)) }
+  where
+    joined : (a : ℕ) (m n : List ℕ) → ((((u ++ a ∷ []) ++ m) ++ 91 ∷ []) ++ n) ++ 93 ∷ [] ≡ u ++ (a ∷ (m ++ (91 ∷ (n ++ (93 ∷ [])))))
+    joined a m n = simp append-assoc
+
 symbol-read : {u : List ℕ} {g : History} {x : Spot} → Starts x → Reached u g x → (e : Event) → Sayable e → Symbol u g e
 symbol-read {u} {g} s r (opens j) f =
     record { spot = in-job for-open j; whole = whole-open; reached = subst (λ (l : List ℕ). Reached l g (in-job for-open j)) (append-assoc u (66 ∷ []) (decimal j)) (job-read for-open (letter-read s r for-open) j f) }
 symbol-read {u} {g} s r (ends j) f =
     record { spot = in-job for-end j; whole = whole-end; reached = subst (λ (l : List ℕ). Reached l g (in-job for-end j)) (append-assoc u (69 ∷ []) (decimal j)) (job-read for-end (letter-read s r for-end) j f) }
-symbol-read {u} {g} s r (steps k j c) f =
-    let a = job-read (for-step k) (letter-read s r (for-step k)) j (f .0) in
-    let b = cell-read k j (reached-goes a (bracket k)) c (f .1) in
-    record { spot = closed k j c; whole = whole-step k; reached = subst (λ (l : List ℕ). Reached l g (closed k j c)) (joined (letter k) (decimal j) (decimal c)) (reached-goes b (close k)) }
-  where
-    joined : (a : ℕ) (m n : List ℕ) → ((((u ++ a ∷ []) ++ m) ++ 91 ∷ []) ++ n) ++ 93 ∷ [] ≡ u ++ (a ∷ (m ++ (91 ∷ (n ++ (93 ∷ [])))))
-    joined a m n = simp append-assoc
+symbol-read s r (steps read j c) f = step-read s r reading j c f
+symbol-read s r (steps write j c) f = step-read s r writing j c f
+symbol-read s r (steps add j c) f = absurd f
 symbol-read s r (abandons j) f = absurd f
 
 end-whole : (g : History) {x : Spot} {e : Event} (p : ℕ) → Whole x e → parse-end g (at x) p ≡ says (g ++ e ∷ [])
 unfolding parse-end whole-at with-cell event-at
 end-whole g p whole-open = refl
 end-whole g p whole-end = refl
-end-whole g p (whole-step read) = refl
-end-whole g p (whole-step write) = refl
+end-whole g p (whole-step reading) = refl
+end-whole g p (whole-step writing) = refl
 
 text-read : {u : List ℕ} {g : History} {x : Spot} → Starts x → Reached u g x → (e : Event) (h : History) → ((f : Event) → f ∈ e ∷ h → Sayable f)
     → parse (u ++ text-of (e ∷ h)) ≡ says (g ++ e ∷ h)
@@ -544,11 +569,11 @@ end-of blank = short (λ g p. refl)
 end-of (lettered l) = short (λ g p. refl)
 end-of (in-job for-open n) = whole (opens n) whole-open
 end-of (in-job for-end n) = whole (ends n) whole-end
-end-of (in-job (for-step read) n) = short (λ g p. refl)
-end-of (in-job (for-step write) n) = short (λ g p. refl)
+end-of (in-job (for-step reading) n) = short (λ g p. refl)
+end-of (in-job (for-step writing) n) = short (λ g p. refl)
 end-of (bracketed k j) = short (λ g p. refl)
 end-of (in-cell k j n) = short (λ g p. refl)
-end-of (closed k j n) = whole (steps k j n) (whole-step k)
+end-of (closed k j n) = whole (steps (kind k) j n) (whole-step k)
 
 -- ---- what it is read as
 

@@ -1,6 +1,7 @@
 -- The promises of import and export in the report's notation. Each is proved in the file that its proof cites.
 --
--- To be believed for them: Notation (the symbol of an event, the text of a history, the form, where a text goes wrong, what is left without the abandoned jobs), Answers (`written`,
+-- To be believed for them: Notation (the symbol of an event, the text of a history, the form, where a text goes wrong, what is left without the abandoned jobs, which add is the
+-- first), Answers (`written`,
 -- `Bytes`, and what an answer means, code by code), `Filled` of Blocks in the crate blocks, and Logs in the crate verdicts. Not how a text is read: `import` reads it by Parse,
 -- and import-means speaks of the form alone.
 -- Assumes nothing.
@@ -14,11 +15,11 @@ use Rattle.graph.specs.Decide.{eq-test, answer}
 use Rattle.history.specs.Events.{History}
 use Rattle.verdicts.specs.Logs.{events, read-log, log-of}
 use Rattle.blocks.specs.Blocks.{Filled, refused, done}
-use Rattle.notation.specs.Notation.{Says, Form, Wrong, without-abandoned}
+use Rattle.notation.specs.Notation.{text-of, Says, Form, Wrong, without-abandoned, NoAdd, FirstAdd}
 use Rattle.notation.specs.Answers.{import, export, written, Bytes, Imported, Exported}
 use Rattle.notation.specs.ParseLaws.{says-once}
 use Rattle.notation.specs.ReadLaws.{read-is}
-use Rattle.notation.specs.TextLaws.{import-right, export-right, import-wrong, fault-other, not-formed, twenty-six, wrong-there, too-long, eleven, imported-back, exported-back, import-nothing, export-nothing, export-short, wrong-inside, log-short}
+use Rattle.notation.specs.TextLaws.{import-right, export-right, import-wrong, fault-other, not-formed, twenty-six, wrong-there, too-long, eleven, refuses-add, twenty-seven, makes-text, text-made, says-none, imported-back, exported-back, import-nothing, export-nothing, export-short, wrong-inside, add-inside, log-short}
 
 -- ---- what an answer means, code by code
 
@@ -39,13 +40,26 @@ place-exactly text lent p = (wrong-there text lent p, import-wrong lent)
 pub eleven-exactly : (text lent : List ℕ) → (import text lent .code ≡ 11) ↔ ((h : History) × Says text h × (4096 < length h))
 eleven-exactly text lent = (eleven text lent, λ s. ap (λ (a : Filled). a .code) (too-long lent (s .1) (s .2)))
 
+-- 27 exactly when the log is without fault and holds an add, whatever room there is, and with the place of the first
+pub adds-exactly : (log lent : List ℕ) (p : ℕ) → (export log lent ≡ refused 27 p lent) ↔ ((h : History) × (read-log log ≡ events h) × FirstAdd h p)
+adds-exactly log lent p = (twenty-seven log lent p, λ s. refuses-add log lent (s .1) (s .2))
+
+-- a text is put down exactly when the log is without fault, holds no add, and there is room
+pub exports-exactly : (log lent : List ℕ)
+    → (export log lent .code ≡ 0) ↔ ((h : History) × (read-log log ≡ events h) × NoAdd h × (length (text-of (without-abandoned h)) ≤ length lent))
+exports-exactly log lent = (text-made log lent, λ s. ap (λ (a : Filled). a .code) (makes-text log lent (s .1) (s .2) (s .3)))
+
+-- no text says an add
+pub texts-no-add : {text : List ℕ} {h : History} → Says text h → NoAdd h
+texts-no-add = says-none
+
 -- ---- there and back
 
 -- a log that is read is the log of its history
 pub log-is : (log : List ℕ) (h : History) → Bytes log → read-log log ≡ events h → log ≡ log-of h
 log-is = read-is
 
--- importing what was exported gives the log without the abandoned jobs
+-- importing what was exported gives the log without the abandoned jobs; a log that is exported holds no add
 pub import-of-export : (log : List ℕ) (h : History) → Bytes log → read-log log ≡ events h
     → (lent lent′ : List ℕ) → export log lent .code ≡ 0 → length (log-of (without-abandoned h)) ≤ length lent′
     → import (written (export log lent)) lent′ ≡ done (log-of (without-abandoned h)) lent′
@@ -82,8 +96,9 @@ export-refusal-leaves log lent f = go (export-right log lent) f
   where
     go : {a : Filled} → Exported log lent a → (a .code ≡ 0 → ⊥) → a .bytes ≡ lent
     go (Exported.bad-log r) g = refl
-    go (Exported.no-room r l) g = refl
-    go (Exported.exports r l) g = absurd (g refl)
+    go (Exported.holds-add r a) g = refl
+    go (Exported.no-room r f l) g = refl
+    go (Exported.exports r f l) g = absurd (g refl)
 
 -- ---- codes and places
 
@@ -104,7 +119,7 @@ import-small text lent = go (import-right text lent)
 
 -- a place of export is at most 69,631
 pub record SmallExport (a : Filled) : Type 0 where
-  pub code : a .code ≤ 24
+  pub code : a .code ≤ 27
   pub place : a .place ≤ 69_631
 
 pub export-small : (log lent : List ℕ) → Bytes log → SmallExport (export log lent)
@@ -112,8 +127,9 @@ export-small log lent b = go (export-right log lent)
   where
     go : {a : Filled} → Exported log lent a → SmallExport a
     go (Exported.bad-log r) = let k = fault-other log r in record { code = omega arith; place = let p = k .2 in omega arith }
-    go (Exported.no-room r l) = record { code = omega arith; place = omega arith }
-    go (Exported.exports {h = h} r l) = record { code = omega arith; place = export-short log h b r }
+    go (Exported.holds-add {h = h} r a) = let k = add-inside log h r a in record { code = omega arith; place = omega arith }
+    go (Exported.no-room r f l) = record { code = omega arith; place = omega arith }
+    go (Exported.exports {h = h} r f l) = record { code = omega arith; place = export-short log h b r }
 
 -- so the place has 32 bits, always for export, and for import where the text has fewer than 2 ^ 32 bytes; of a longer text the place of 26 may have more
 pub import-place : (text lent : List ℕ) → length text < 4_294_967_296 → import text lent .place < 4_294_967_296

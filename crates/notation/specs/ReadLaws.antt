@@ -11,12 +11,12 @@ use lib.Dec.{T, leb, ltb, eqb}
 use lib.ListN.{length}
 use Rattle.graph.specs.Decide.{or-test, not-test, eq-test, le-test, answer, test-false, true-is}
 use Rattle.graph.specs.Lists.{_∈_, here, later, each}
-use Rattle.history.specs.Events.{read, write, Event, opens, steps, ends, abandons, History, gather, opened-by, opened}
+use Rattle.history.specs.Events.{read, write, add, Event, opens, steps, ends, abandons, History, gather, opened-by, opened}
 use Rattle.history.specs.Formats.{records}
 use Rattle.history.specs.Granted.{passed}
 use Rattle.history.specs.Replies.{cells, numbers, Request, Want, an-open, a-step, an-end, an-abandon, a-publish, nothing, want, event-of}
 use Rattle.history.specs.TurnLaws.{gather-append}
-use Rattle.verdicts.specs.Logs.{record-bytes, most-bytes, ill-formed, fault-of, Reading, faulty, events, read-from, read-log, kind-number, fields, record-of, log-of}
+use Rattle.verdicts.specs.Logs.{record-bytes, most-bytes, ill-formed, fault-of, Reading, faulty, events, read-from, read-log, fields, record-of, log-of}
 use Rattle.verdicts.specs.LogLaws.{request-for, read-fields, event-for, log-append, Sized}
 use Rattle.verdicts.specs.SizeLaws.{log-size}
 use Rattle.blocks.specs.WordLaws.{bytes-of-word}
@@ -103,7 +103,9 @@ read-sized log h b e =
 
 say-record : (e : Event) (rest : List ℕ) → Sayable e → records (record-of e ++ rest) ≡ request-for e ∷ records rest
 say-record (opens j) rest s = read-fields 1 0 j rest (omega arith) s
-say-record (steps k j c) rest s = read-fields (kind-number k) c j rest (s .1) (s .0)
+say-record (steps read j c) rest s = read-fields 2 c j rest (s .1) (s .0)
+say-record (steps write j c) rest s = read-fields 3 c j rest (s .1) (s .0)
+say-record (steps add j c) rest s = absurd s
 say-record (ends j) rest s = read-fields 4 0 j rest (omega arith) s
 say-record (abandons j) rest s = absurd s
 
@@ -137,14 +139,16 @@ data Sort : ℕ → Want → Type 0 where
   sort-end : Sort 4 an-end
   sort-abandon : Sort 5 an-abandon
   sort-publish : Sort 6 a-publish
+  sort-add : Sort 7 (a-step add)
   sort-none : {k : ℕ} → Sort k nothing
 
-no-kind : (k : ℕ) → (k ≡ 1 → ⊥) → (k ≡ 2 → ⊥) → (k ≡ 3 → ⊥) → (k ≡ 4 → ⊥) → (k ≡ 5 → ⊥) → (k ≡ 6 → ⊥) → want k ≡ nothing
+no-kind : (k : ℕ) → (k ≡ 1 → ⊥) → (k ≡ 2 → ⊥) → (k ≡ 3 → ⊥) → (k ≡ 4 → ⊥) → (k ≡ 5 → ⊥) → (k ≡ 6 → ⊥) → (k ≡ 7 → ⊥) → want k ≡ nothing
 unfolding want
-no-kind k a b c d e f =
-    ap₂ (λ (x y : Bool). cond x an-open (cond y (a-step read) (cond (eqb k 3) (a-step write) (cond (eqb k 4) an-end (cond (eqb k 5) an-abandon (cond (eqb k 6) a-publish nothing)))))) (test-false (eq-test k 1) a) (test-false (eq-test k 2) b)
-    ∙ ap₂ (λ (x y : Bool). cond x (a-step write) (cond y an-end (cond (eqb k 5) an-abandon (cond (eqb k 6) a-publish nothing)))) (test-false (eq-test k 3) c) (test-false (eq-test k 4) d)
-    ∙ ap₂ (λ (x y : Bool). cond x an-abandon (cond y a-publish nothing)) (test-false (eq-test k 5) e) (test-false (eq-test k 6) f)
+no-kind k a b c d e f g =
+    ap₂ (λ (x y : Bool). cond x an-open (cond y (a-step read) (cond (eqb k 3) (a-step write) (cond (eqb k 4) an-end (cond (eqb k 5) an-abandon (cond (eqb k 6) a-publish (cond (eqb k 7) (a-step add) nothing))))))) (test-false (eq-test k 1) a) (test-false (eq-test k 2) b)
+    ∙ ap₂ (λ (x y : Bool). cond x (a-step write) (cond y an-end (cond (eqb k 5) an-abandon (cond (eqb k 6) a-publish (cond (eqb k 7) (a-step add) nothing))))) (test-false (eq-test k 3) c) (test-false (eq-test k 4) d)
+    ∙ ap₂ (λ (x y : Bool). cond x an-abandon (cond y a-publish (cond (eqb k 7) (a-step add) nothing))) (test-false (eq-test k 5) e) (test-false (eq-test k 6) f)
+    ∙ ap (λ (x : Bool). cond x (a-step add) nothing) (test-false (eq-test k 7) g)
 
 sort-of : (k : ℕ) → Sort k (want k)
 unfolding want
@@ -155,7 +159,8 @@ sort-of k =
     (λ c. ⊎-elim (λ e. at-kind 4 e sort-end)
     (λ d. ⊎-elim (λ e. at-kind 5 e sort-abandon)
     (λ f. ⊎-elim (λ e. at-kind 6 e sort-publish)
-    (λ g. subst (Sort k) (sym (no-kind k a b c d f g)) sort-none) (answer (eq-test k 6))) (answer (eq-test k 5))) (answer (eq-test k 4))) (answer (eq-test k 3))) (answer (eq-test k 2))) (answer (eq-test k 1))
+    (λ g. ⊎-elim (λ e. at-kind 7 e sort-add)
+    (λ i. subst (Sort k) (sym (no-kind k a b c d f g i)) sort-none) (answer (eq-test k 7))) (answer (eq-test k 6))) (answer (eq-test k 5))) (answer (eq-test k 4))) (answer (eq-test k 3))) (answer (eq-test k 2))) (answer (eq-test k 1))
   where
     at-kind : (n : ℕ) → k ≡ n → Sort n (want n) → Sort k (want k)
     at-kind n e s = subst (λ (x : ℕ). Sort x (want x)) (sym e) s
@@ -178,6 +183,7 @@ record-is z c j sort-write f = (first-zero z c f, refl)
 record-is z c j sort-end f = let b = both-zero z c f in (b .0, ap (λ (x : ℕ). fields 4 x j) (sym (b .1)))
 record-is z c j sort-abandon f = let b = both-zero z c f in (b .0, ap (λ (x : ℕ). fields 5 x j) (sym (b .1)))
 record-is z c j sort-publish f = absurd (f tt)
+record-is z c j sort-add f = (first-zero z c f, refl)
 record-is z c j sort-none f = absurd (f tt)
 
 eight-are : (h : History) (k z c d i j m n : ℕ) → c < 256 → d < 256 → i < 256 → j < 256 → m < 256 → n < 256

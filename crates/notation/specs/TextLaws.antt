@@ -1,28 +1,30 @@
--- What the answers of import and of export come to (`import-right`, `export-right`), when 26 and 11 are given, that each undoes the other (`imported-back`, `exported-back`), and how long a text is.
+-- What the answers of import and of export come to (`import-right`, `export-right`), when 26, 11 and 27 are given, that each undoes the other (`imported-back`, `exported-back`), and how long a text is.
 -- Assumes nothing.
 use mathlib.Core.Path.{_≡_, refl, sym, ap, subst, _∙_}
 use mathlib.Core.Logic.{⊎-elim}
+use mathlib.Core.Bool.{Bool, cond}
 use mathlib.Core.List.{List, [], _∷_, _++_}
 use Prim.Native.Nat.{ℕ, suc, _+_, _*_, _/_, _≤_, _<_, zero-le}
 use native.Mathlib.Omega.{arith}
 use lib.ListN.{length, drop, length-append}
 use lib.Seq.{take-append-seam}
-use Rattle.graph.specs.Decide.{lt-test, answer}
+use Rattle.graph.specs.Decide.{lt-test, answer, test-true, test-false}
 use Rattle.graph.specs.Lists.{_∈_, here, later}
 use Rattle.text.specs.Decimal.{decimal}
 use Rattle.text.specs.DecimalLaws.{leading-length}
-use Rattle.history.specs.Events.{Event, opens, steps, ends, abandons, History}
+use Rattle.history.specs.Events.{read, write, add, Event, opens, steps, ends, abandons, History}
 use Rattle.verdicts.specs.Logs.{Reading, faulty, events, read-log, log-of}
 use Rattle.verdicts.specs.LogLaws.{Fault, of-length, of-record, faults, read-turns, read-back, log-length}
 use Rattle.verdicts.specs.Cases.{bytes-above}
 use Rattle.verdicts.specs.SizeLaws.{log-size, fault-code, fault-known}
 use Rattle.blocks.specs.Blocks.{Filled, refused, done, filled}
 use Rattle.blocks.specs.RunLaws.{fills, fills-not}
-use Rattle.notation.specs.Notation.{symbol, text-of, Says, Form, Wrong, no-such-byte, stops-short, without-abandoned}
+use Rattle.notation.specs.Notation.{on-cell, symbol, text-of, Says, Form, Wrong, no-such-byte, stops-short, without-abandoned, NoAdd, FirstAdd}
 use Rattle.notation.specs.Parse.{Parsed, wrong, says, parse, parse-end}
-use Rattle.notation.specs.Answers.{imported, import-of, import, export-of, export, written, Bytes, Imported, Exported}
+use Rattle.notation.specs.Answers.{imported, import-of, import, before-adds, exported, export-of, export, written, Bytes, Imported, Exported}
 use Rattle.notation.specs.ParseLaws.{Read, said, gone-wrong, parse-right, parse-says, wrong-exactly, wrong-not-form, form-or-wrong}
-use Rattle.notation.specs.LeftOutLaws.{left-turns, left-sized, Plain, plain-sayable, left-plain, whole-left}
+use Rattle.notation.specs.FirstAddLaws.{Found, none, first, found, is-there, first-is, none-is}
+use Rattle.notation.specs.LeftOutLaws.{left-turns, left-sized, Plain, plain-sayable, left-from, left-plain, whole-left}
 use Rattle.notation.specs.ReadLaws.{read-sized, read-same}
 
 -- ---- the answers, code by code
@@ -47,13 +49,32 @@ import-right text lent = go (parse text) (parse-right text)
     go (says h) (said s) = logged s (read-log (log-of h)) refl
     go (wrong p) (gone-wrong w) = Imported.not-of-form w
 
+-- without an add, and with one
+pub exported-none : (h : History) (lent : List ℕ) → NoAdd h → exported h (before-adds h) lent ≡ filled (text-of (without-abandoned h)) lent
+exported-none h lent f =
+    let n = none-is h f in
+    ap (λ (b : Bool). cond b (refused 27 (before-adds h) lent) (filled (text-of (without-abandoned h)) lent)) (test-false (lt-test (before-adds h) (length h)) (λ l. omega arith))
+
+pub exported-first : {h : History} {p : ℕ} (lent : List ℕ) → FirstAdd h p → exported h (before-adds h) lent ≡ refused 27 p lent
+exported-first {h} {p} lent a =
+    let q = first-is a in
+    let e = q .0 in
+    let l = q .1 in
+    ap (λ (b : Bool). cond b (refused 27 (before-adds h) lent) (filled (text-of (without-abandoned h)) lent)) (test-true (lt-test (before-adds h) (length h)) (omega arith))
+    ∙ ap (λ (x : ℕ). refused 27 x lent) e
+
 pub export-right : (log lent : List ℕ) → Exported log lent (export log lent)
 unfolding export
 export-right log lent = go (read-log log) refl
   where
+    by-adds : (h : History) → read-log log ≡ events h → Found h → Exported log lent (exported h (before-adds h) lent)
+    by-adds h e (none f n) =
+        subst (Exported log lent) (sym (exported-none h lent f)) (roomy (Exported log lent) (text-of (without-abandoned h)) lent (λ l. Exported.no-room e f l) (λ l. Exported.exports e f l))
+    by-adds h e (first a l) = subst (Exported log lent) (sym (exported-first lent a)) (Exported.holds-add e a)
+
     go : (r : Reading) → read-log log ≡ r → Exported log lent (export-of r lent)
     go (faulty c p) e = Exported.bad-log e
-    go (events h) e = roomy (Exported log lent) (text-of (without-abandoned h)) lent (λ l. Exported.no-room e l) (λ l. Exported.exports e l)
+    go (events h) e = by-adds h e (found h)
 
 -- ---- the form
 
@@ -109,18 +130,57 @@ eleven text lent z = go (import-right text lent) z
     go (Imported.no-room s r l) e = absurd (let y : _≡_ {A = ℕ} 24 11 = e in omega arith)
     go (Imported.imports s r l) e = absurd (let y : _≡_ {A = ℕ} 0 11 = e in omega arith)
 
+-- ---- 27, and 0 for an export
+
+module _ (log lent : List ℕ) where
+  export-read : {h : History} → read-log log ≡ events h → export log lent ≡ exported h (before-adds h) lent
+  unfolding export
+  export-read r = ap (λ (g : Reading). export-of g lent) r
+
+  pub refuses-add : {h : History} {p : ℕ} → read-log log ≡ events h → FirstAdd h p → export log lent ≡ refused 27 p lent
+  refuses-add r a = export-read r ∙ exported-first lent a
+
+  pub twenty-seven : (p : ℕ) → export log lent ≡ refused 27 p lent → (h : History) × (read-log log ≡ events h) × FirstAdd h p
+  twenty-seven p z = go (export-right log lent) (ap (λ (a : Filled). a .code) z) (ap (λ (a : Filled). a .place) z)
+    where
+      go : {a : Filled} → Exported log lent a → a .code ≡ 27 → a .place ≡ p → (h : History) × (read-log log ≡ events h) × FirstAdd h p
+      go (Exported.bad-log e) y q = absurd (let k = fault-other log e in let u = k .1 in omega arith)
+      go (Exported.holds-add {h = h} e a) y q = (h, e, subst (FirstAdd h) q a)
+      go (Exported.no-room e f l) y q = absurd (let x : _≡_ {A = ℕ} 24 27 = y in omega arith)
+      go (Exported.exports e f l) y q = absurd (let x : _≡_ {A = ℕ} 0 27 = y in omega arith)
+
+  pub makes-text : {h : History} → read-log log ≡ events h → NoAdd h → length (text-of (without-abandoned h)) ≤ length lent → export log lent ≡ done (text-of (without-abandoned h)) lent
+  makes-text {h} r f l = export-read r ∙ exported-none h lent f ∙ fills (text-of (without-abandoned h)) lent l
+
+  pub text-made : export log lent .code ≡ 0 → (h : History) × (read-log log ≡ events h) × NoAdd h × (length (text-of (without-abandoned h)) ≤ length lent)
+  text-made z = go (export-right log lent) z
+    where
+      go : {a : Filled} → Exported log lent a → a .code ≡ 0 → (h : History) × (read-log log ≡ events h) × NoAdd h × (length (text-of (without-abandoned h)) ≤ length lent)
+      go (Exported.bad-log e) y = absurd (let k = fault-other log e in let u = k .0 in omega arith)
+      go (Exported.holds-add e a) y = absurd (let x : _≡_ {A = ℕ} 27 0 = y in omega arith)
+      go (Exported.no-room e f l) y = absurd (let x : _≡_ {A = ℕ} 24 0 = y in omega arith)
+      go (Exported.exports {h = h} e f l) y = (h, e, f, l)
+
+-- what a text says has no add
+pub says-none : {text : List ℕ} {h : History} → Says text h → NoAdd h
+says-none s j c m = s .sayable (steps add j c) m
+
 -- ---- there and back
 
 module _ (log : List ℕ) (h : History) (b : Bytes log) (r : read-log log ≡ events h) where
-  left-said : Says (text-of (without-abandoned h)) (without-abandoned h)
-  left-said = record { sayable = λ e m. plain-sayable e (left-plain h (read-turns log h r) (read-sized log h b r) e m); text = refl }
+  left-said : NoAdd h → Says (text-of (without-abandoned h)) (without-abandoned h)
+  left-said f =
+      record {
+        sayable = λ e m. plain-sayable e (λ j c q. f j c (subst (λ (x : Event). x ∈ h) q (left-from h e m))) (left-plain h (read-turns log h r) (read-sized log h b r) e m);
+        text = refl;
+      }
 
   left-read : read-log (log-of (without-abandoned h)) ≡ events (without-abandoned h)
   left-read = read-back (without-abandoned h) (left-turns h (read-turns log h r)) (left-sized h (read-sized log h b r))
 
   -- the text that is exported is imported as the log without the abandoned jobs
-  pub text-imported : (lent : List ℕ) → import (text-of (without-abandoned h)) lent ≡ filled (log-of (without-abandoned h)) lent
-  text-imported lent = import-says lent left-said ∙ ap (λ (g : Reading). imported g (log-of (without-abandoned h)) lent) left-read
+  pub text-imported : NoAdd h → (lent : List ℕ) → import (text-of (without-abandoned h)) lent ≡ filled (log-of (without-abandoned h)) lent
+  text-imported f lent = import-says lent (left-said f) ∙ ap (λ (g : Reading). imported g (log-of (without-abandoned h)) lent) left-read
 
   pub imported-back : (lent lent′ : List ℕ) → export log lent .code ≡ 0 → length (log-of (without-abandoned h)) ≤ length lent′
       → import (written (export log lent)) lent′ ≡ done (log-of (without-abandoned h)) lent′
@@ -128,11 +188,12 @@ module _ (log : List ℕ) (h : History) (b : Bytes log) (r : read-log log ≡ ev
     where
       go : {a : Filled} → Exported log lent a → a .code ≡ 0 → import (written a) lent′ ≡ done (log-of (without-abandoned h)) lent′
       go (Exported.bad-log e) y = absurd (let k = fault-other log e in let u = k .0 in omega arith)
-      go (Exported.no-room e l) y = absurd (let x : _≡_ {A = ℕ} 24 0 = y in omega arith)
-      go (Exported.exports {h = k} e l) y =
+      go (Exported.holds-add e a) y = absurd (let x : _≡_ {A = ℕ} 27 0 = y in omega arith)
+      go (Exported.no-room e f l) y = absurd (let x : _≡_ {A = ℕ} 24 0 = y in omega arith)
+      go (Exported.exports {h = k} e f l) y =
           let same : k ≡ h = cc in
           ap (λ (t : List ℕ). import t lent′) (take-append-seam (text-of (without-abandoned k)) (drop (length (text-of (without-abandoned k))) lent) ∙ ap (λ (g : History). text-of (without-abandoned g)) same)
-          ∙ text-imported lent′
+          ∙ text-imported (subst NoAdd same f) lent′
           ∙ fills (log-of (without-abandoned h)) lent′ room
 
 -- the log that a text is imported as is exported as that text
@@ -140,7 +201,7 @@ pub exported-back : (text lent lent′ : List ℕ) → import text lent .code �
 exported-back text lent lent′ z room = go (import-right text lent) z
   where
     log-exported : (h : History) → Says text h → read-log (log-of h) ≡ events h → export (log-of h) lent′ ≡ filled text lent′
-    log-exported = unfold export in λ h s r. ap (λ (g : Reading). export-of g lent′) r ∙ ap (λ (k : History). filled (text-of k) lent′) (whole-left h (s .sayable)) ∙ ap (λ (t : List ℕ). filled t lent′) (sym (s .text))
+    log-exported h s r = export-read (log-of h) lent′ r ∙ exported-none h lent′ (says-none s) ∙ ap (λ (k : History). filled (text-of k) lent′) (whole-left h (s .sayable)) ∙ ap (λ (t : List ℕ). filled t lent′) (sym (s .text))
 
     go : {a : Filled} → Imported text lent a → a .code ≡ 0 → export (written a) lent′ ≡ done text lent′
     go (Imported.not-of-form w) e = absurd (let y : _≡_ {A = ℕ} 26 0 = e in omega arith)
@@ -156,7 +217,7 @@ unfolding import parse parse-end read-log
 import-nothing lent = fills [] lent zero-le
 
 pub export-nothing : (lent : List ℕ) → export [] lent ≡ done [] lent
-unfolding export read-log without-abandoned
+unfolding export read-log without-abandoned before-adds
 export-nothing lent = fills [] lent zero-le
 
 -- ---- how long a text is
@@ -169,13 +230,18 @@ cell-length : (n : ℕ) → n < 256 → length (decimal n) ≤ 3
 unfolding decimal
 cell-length n h = let i = leading-length 2 (n / 10) (omega arith) in simp length-append (omega arith)
 
-symbol-length : (e : Event) → Plain e → length (symbol e) ≤ 16
-symbol-length (opens j) p = let l = job-length j p in omega arith
-symbol-length (steps k j c) p =
+on-cell-length : (letter j c : ℕ) → (j < 4_294_967_296) × (c < 256) → length (on-cell letter j c) ≤ 16
+on-cell-length letter j c p =
     let l = job-length j (p .0) in
     let m = cell-length c (p .1) in
     let a = length-append (decimal j) (91 ∷ (decimal c ++ (93 ∷ []))) in
     let b = length-append (decimal c) (93 ∷ []) in omega arith
+
+symbol-length : (e : Event) → Plain e → length (symbol e) ≤ 16
+symbol-length (opens j) p = let l = job-length j p in omega arith
+symbol-length (steps read j c) p = on-cell-length 82 j c p
+symbol-length (steps write j c) p = on-cell-length 87 j c p
+symbol-length (steps add j c) p = omega arith
 symbol-length (ends j) p = let l = job-length j p in omega arith
 symbol-length (abandons j) p = absurd p
 
@@ -202,6 +268,14 @@ export-short log h b r =
 pub wrong-inside : {t : List ℕ} {p : ℕ} → Wrong t p → p ≤ length t
 wrong-inside (no-such-byte l b f) = omega arith
 wrong-inside (stops-short b f) = omega arith
+
+-- the first add of a log that is read is among 4,096 records
+pub add-inside : (log : List ℕ) (h : History) {p : ℕ} → read-log log ≡ events h → FirstAdd h p → p ≤ 4095
+add-inside log h r a =
+    let s = log-size log h r in
+    let w = s .whole in
+    let l = s .short in
+    let q = first-is a .1 in omega arith
 
 -- the log of events that are read has 32,768 bytes at most
 pub log-short : (h : History) → read-log (log-of h) ≡ events h → length (log-of h) ≤ 32_768

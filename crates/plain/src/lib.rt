@@ -124,7 +124,7 @@ pub fn put_fault(code: u32, place: u64, out: &mut [u8], at: usize) -> usize
         13 => put_counted(
             b"record ",
             place,
-            b" is out of turn: an open that is not above all numbers opened before, a job that is not open there, or an abandon after its own write\n",
+            b" is out of turn: an open that is not above all numbers opened before, a job that is not open there, or an abandon after its own write or add\n",
             out,
             at,
         ),

@@ -80,7 +80,8 @@ fn marks_of(h: &List, n: usize, job: u64) -> u64 {
 
 const OPENED: u64 = 0b10;
 
-const WRITTEN: u64 = 0b1000;
+// Has written, or has added.
+const ALTERED: u64 = 0b10001000;
 
 const ENDED: u64 = 0b10000;
 
@@ -114,16 +115,16 @@ const MARK: u64 = 256;
 
 const ALL: u64 = 0xffff_ffff_ffff_ffff;
 
-// Do an earlier record and a later one of another job conflict: steps on one cell, at least one a write, or an end and an open? Of the kinds 0 to 5, the steps are 2
-// and 3. The earlier one is to have the mark, if one is given.
+// Do an earlier record and a later one of another job conflict: steps on one cell, of two kinds or both writes, or an end and an open? Of the kinds that are kept, 0 to 5
+// and 7, the steps are 2, 3 and 7. The earlier one is to have the mark, if one is given.
 fn conflict(earlier: u64, later: u64, mark: u64) -> bool {
     let other = earlier ^ later;
     let steps = earlier & later & 2 != 0;
-    let write = (earlier | later) & 1 != 0;
+    let unlike = (other & 255 != 0) | (later & 255 == 3);
     let meet = other & 0xffff_0000 == 0;
     let in_time = (earlier % 256 == 4) & (later % 256 == 1);
     let apart = 4294967296 <= other;
-    ((steps & write & meet) | in_time) & apart & (earlier & mark == mark)
+    ((steps & unlike & meet) | in_time) & apart & (earlier & mark == mark)
 }
 
 // Is one of the first n records in conflict with one after them?
@@ -199,10 +200,10 @@ fn closes(h: &List, step: u64, marks: u64) -> bool {
 
 // ---- the replies by the definitions. A reply of 7 is marked where every circle passes a job that has ended.
 
-// Kind not 1 to the last one, or byte 1 not zero.
-fn is_malformed(record: u64, last: u64) -> bool {
+// Kind not 1 to 7, or byte 1 not zero.
+fn is_malformed(record: u64) -> bool {
     let kind = record % 256;
-    (kind == 0) | (last < kind) | (record / 256 % 256 != 0)
+    (kind == 0) | (7 < kind) | (record / 256 % 256 != 0)
 }
 
 fn decide_open(h: &List, n: usize) -> u64 {
@@ -219,13 +220,13 @@ fn decide_open(h: &List, n: usize) -> u64 {
 // Why a job with these marks may not ask so; 0 where it may, but for circles.
 fn refusal(asked: u64, marks: u64) -> u64 {
     let kind = asked % 256;
-    if kind < 4 && 255 < asked / 65536 % 65536 {
+    if kind & 2 != 0 && 255 < asked / 65536 % 65536 {
         return 2;
     }
     if marks & OPEN != OPENED {
         return 3;
     }
-    if kind == 5 && marks & WRITTEN != 0 {
+    if kind == 5 && marks & ALTERED != 0 {
         return 4;
     }
     0
@@ -252,7 +253,7 @@ fn step_of(asked: u64) -> u64 {
 
 // The reply to a request. A publish gets the reply that its write gets: the end is of an open job.
 fn decide(h: &List, asked: u64) -> u64 {
-    if is_malformed(asked, 6) {
+    if is_malformed(asked) {
         return 1;
     }
     if asked % 256 == 1 {
@@ -267,7 +268,7 @@ fn decide(h: &List, asked: u64) -> u64 {
 }
 
 // ---- counts. A row has 16 places: how many answers differed, how many there were, how many had each code, of which those from 11 on stand for 1 to 8, in the place
-// of an 8 how many replies were marked, how many histories or logs there were, and how many publishes were granted.
+// of an 8 how many replies were marked, how many histories or logs there were, and how many publishes and how many adds were granted.
 
 // The rows, by their first place, as the report has them line by line. A row of each shape comes first, and then what they sum to; the last is what the others sum to.
 const COUNTS: usize = 4352;
@@ -290,8 +291,6 @@ const REST: u64 = 4560;
 
 // What is to be counted is one number. Its bits: those below 16 are one more at each such place of the row; from 16 on the row.
 const BEGIN: u64 = 2048;
-
-const PUBLISHED: u64 = 4096;
 
 // Two answers, and what is wanted, if that is not ALL.
 fn compared(row: u64, mine: u64, theirs: u64, want: u64) -> u64 {
@@ -391,17 +390,16 @@ fn kept(asked: u64, reply: u64) -> u64 {
     asked % 256 | reply
 }
 
-// What is granted is kept, of a publish two records: the write, and the end. What is to be counted of it beside the reply.
+// What is granted is kept, of a publish two records: the write, and the end. What is to be counted of it beside the reply: kinds 6 and 7 have the places 12 and 13.
 fn keep(h: &mut List, asked: u64, reply: u64) -> u64 {
     if reply % 256 != 0 {
         return 0;
     }
     add(h, kept(asked, reply));
-    if asked % 256 != 6 {
-        return 0;
+    if asked % 256 == 6 {
+        add(h, reply | 4);
     }
-    add(h, reply | 4);
-    PUBLISHED
+    64 << (asked % 8) & 12288
 }
 
 // The arbiter's reply to one request more.
@@ -425,7 +423,8 @@ fn ask(h: &mut List, row: u64, asked: u64, want: u64) {
 // A wrong kind, byte 1 not zero, a cell above 255, or one that must be 0 and is not.
 fn is_bad(record: u64) -> bool {
     let cell = record / 65536 % 65536;
-    is_malformed(record, 5) | (255 < cell) | ((cell != 0) & (record & 2 == 0))
+    let kind = record % 256;
+    is_malformed(record) | (kind == 6) | (255 < cell) | ((cell != 0) & (kind & 2 == 0))
 }
 
 // The fault of an open, where so much was seen of its job before.
@@ -718,13 +717,14 @@ fn fields_of(text: &[u8], from: usize) -> List {
 
 fn kind_named(word: u64) -> u64 {
     match word {
-        // open, read, write, end, abandon, publish
+        // open, read, write, end, abandon, publish, add
         0x6f70656e => 1,
         0x72656164 => 2,
         0x7772697465 => 3,
         0x656e64 => 4,
         0x6162616e646f6e => 5,
         0x7075626c697368 => 6,
+        0x616464 => 7,
         _ => word,
     }
 }
@@ -847,7 +847,7 @@ fn is_passed(fields: &List) -> bool {
 fn try_text(h: &mut List, text: &[u8]) {
     let mut from: usize = 0;
     let mut turn: usize = 0;
-    while turn < 4096 {
+    while turn < 8192 {
         let fields = fields_of(text, from);
         if !is_passed(&fields) {
             tell_line(h, &fields);
@@ -873,12 +873,12 @@ fn shifted(x: u64) -> u64 {
 // first, and for the first.
 fn shape_of(k: u64) -> u64 {
     match k {
-        0 => 0x83_1223345_1223336,
-        1 => 0xc3_1233446_1122333,
-        2 => 0x33_1223345_1223336,
-        3 => 0x43_1222225_1233356,
-        4 => 0xe3_1123345_1112236,
-        _ => 0xc3_1112336_1112233,
+        0 => 0x83_1223745_1227736,
+        1 => 0xc3_1237446_1127733,
+        2 => 0x33_1223745_1227736,
+        3 => 0x43_1222275_1237756,
+        4 => 0xe3_1123745_1117236,
+        _ => 0xc3_1117736_1112733,
     }
 }
 
@@ -941,11 +941,11 @@ fn window(h: &mut List, k: u64, seed: u64) {
     }
 }
 
-// What is changed in a round of a record of the log: the kind to the one beside it, twice, the job, any bit; or of the log's length.
+// What is changed in a round of a record of the log: the kind to the one beside it, a write to an add or back, the job, any bit; or of the log's length.
 fn bits_for(round: u64, r: u64) -> u64 {
     match round {
         4 => 1,
-        5 => 1,
+        5 => 4,
         6 => (r % 8) << 32,
         7 => 1u64 << (r % 64),
         8 => r % 16,
@@ -1044,14 +1044,14 @@ fn report(h: &List) {
     say_all(
         h,
         b"seed 1981; codes 0 to 7, and of 7 those through ended jobs; of orders and lists, codes 0 and 11 to 18
-few cells: # differ of # requests: # # # # # # # #, #; # histories, # publishes granted
-one job open throughout: # differ of # requests: # # # # # # # #, #; # histories, # publishes granted
-bad requests: # differ of # requests: # # # # # # # #, #; # histories, # publishes granted
-abandons: # differ of # requests: # # # # # # # #, #; # histories, # publishes granted
-slots full: # differ of # requests: # # # # # # # #, #; # histories, # publishes granted
-numbers running out: # differ of # requests: # # # # # # # #, #; # histories, # publishes granted
-all streams: # differ of # requests: # # # # # # # #, #; # histories, # publishes granted
-tried histories: # differ of # requests: # # # # # # # #, #; # histories, # publishes granted
+few cells: # differ of # requests: # # # # # # # #, #; # histories, # publishes and # adds granted
+one job open throughout: # differ of # requests: # # # # # # # #, #; # histories, # publishes and # adds granted
+bad requests: # differ of # requests: # # # # # # # #, #; # histories, # publishes and # adds granted
+abandons: # differ of # requests: # # # # # # # #, #; # histories, # publishes and # adds granted
+slots full: # differ of # requests: # # # # # # # #, #; # histories, # publishes and # adds granted
+numbers running out: # differ of # requests: # # # # # # # #, #; # histories, # publishes and # adds granted
+all streams: # differ of # requests: # # # # # # # #, #; # histories, # publishes and # adds granted
+tried histories: # differ of # requests: # # # # # # # #, #; # histories, # publishes and # adds granted
 tried orders: # differ of # verdicts: # # # # # # # # #; # logs
 tried lists: # differ of # answers: # # # # # # # # #
 orders of the streams: # differ of # verdicts: # # # # # # # # #

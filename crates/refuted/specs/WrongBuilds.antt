@@ -22,7 +22,7 @@ use Rattle.history.specs.Cases.{open-one, reads, writes, granted, refused, Case
 
 -- ---- the builds
 
--- an open as the right rule has it, and a read or write
+-- an open as the right rule has it, and a read, write or add
 abbrev open-by : Memory → ℕ → Memory
 open-by m j = step-in (open-in m j) opening j 0
 

@@ -63,14 +63,14 @@ module _ {h : Held} {j c : ℕ} where
   lates-read-not-open e z q = lates-refused (reading j c) 3 (code-read h j c (lt-leb 256 c q) (slot-none h j e z)) refl refl
 
   pub lates-read-granted : {s into-s : ℕ} {job : JobNumber} {leads sets : List ℕ} → Found h j s → c < 256 → job .0 ≡ j
-      → into-s ≡ mask-of 32 (touches (h .free) (h .sets) read s (c % 256)) → leads ≡ gained (h .leads) (bit into-s) (2 ^ s) → sets ≡ marked-own (h .sets) s 0 (c % 256)
+      → into-s ≡ mask-of 32 (touches (h .free) (h .sets) read s (c % 256)) → leads ≡ gained (h .leads) (bit into-s) (2 ^ s) → sets ≡ marked-own (h .sets) s read (c % 256)
       → Lates h (asks (reading j c)) (record { next = h .next; free = h .free; answer = Granted job }) (h .numbers) leads sets
   unfolding want moved stepped-at open-at leads-at touched cell-at word-at job-of
   lates-read-granted {s} f q n et el es =
       lates-by (reading j c) 0 (code-read h j c (lt-leb 256 c q) (f .first)) (λ i. record { code = 0; job = n i })
       (lent-same refl refl refl
       (el ∙ gained-by (h .leads) (touches (h .free) (h .sets) read s c) (2 ^ s) (et ∙ ap (λ (x : ℕ). mask-of 32 (touches (h .free) (h .sets) read s x)) (mod-eq-of-lt q)))
-      (es ∙ ap (marked-own (h .sets) s 0) (mod-eq-of-lt q))
+      (es ∙ ap (marked-own (h .sets) s read) (mod-eq-of-lt q))
       ∙ ap (λ (o : Option ℕ). with-slot o (λ s. stepped-at h read s c) h) (sym (f .first)))
 
 -- ---- a request of eight bytes

@@ -45,12 +45,12 @@ union-empty (w ∷ ws) (v ∷ vs) e = ap₂ _&&_ (or-none w v) (union-empty ws v
     go true false c d = sym (and-false c)
     go false b c d = refl
 
--- so a row has a past exactly when the union of its past reads and writes is not empty
-pub past-law : {reads writes all : List ℕ} {none : Bool} (h : Held) (i : ℕ) → Part (h .sets) (i * 16 + 8) reads → Part (h .sets) (i * 16 + 12) writes
-    → all ≡ union reads writes → none ≡ empty all → not none ≡ has-past h i
+-- so a row has a past exactly when the union of its past used and altered cells is not empty
+pub past-law : {used altered all : List ℕ} {none : Bool} (h : Held) (i : ℕ) → Part (h .sets) (i * 16 + 8) used → Part (h .sets) (i * 16 + 12) altered
+    → all ≡ union used altered → none ≡ empty all → not none ≡ has-past h i
 unfolding has-past
-past-law {reads} {writes} h i t u eu ee =
-    ap not (ee ∙ ap empty eu ∙ union-empty reads writes (t .four ∙ sym (u .four))) ∙ go (empty reads) (empty writes)
+past-law {used} {altered} h i t u eu ee =
+    ap not (ee ∙ ap empty eu ∙ union-empty used altered (t .four ∙ sym (u .four))) ∙ go (empty used) (empty altered)
     ∙ ap₂ (λ (a b : List ℕ). not (empty a) || (not (empty b) || false)) (sym (set-law h i 8 t)) (sym (set-law h i 12 u))
   where
     go : (a b : Bool) → not (a && b) ≡ not a || (not b || false)

@@ -1,11 +1,11 @@
 -- The writes of a publish, all at once: what the code does with the whole set of cells is what writing them one after the other does.
 --
 -- First a set against the words of a row: it overlaps them exactly when some of its cells is there (`overlaps-some`), and so some cell of it touches the row (`meets-itself`,
--- `meets-other`). Then what the writes leave, place by place: who leads to the slot (`down-leads`), and the slot's own writes (`down-sets`), which gain the set's words
+-- `meets-other`). Then what the writes leave, place by place: who leads to the slot (`down-leads`), and the slot's own sets (`down-sets`), which gain the set's words
 -- (`joined-law`). Last, states that are the same place by place end alike (`ended-same`).
 -- Assumes nothing.
 use mathlib.Core.Path.{_≡_, refl, sym, ap, ap₂, _∙_, subst, subst₂}
-use mathlib.Core.Logic.{⊎-elim}
+use mathlib.Core.Logic.{_⊎_, inl, inr, ⊎-elim}
 use mathlib.Core.Bool.{Bool, true, false, not, _&&_, _||_, cond, and-false, or-false, or-comm, or-assoc}
 use mathlib.Core.List.{List, [], _∷_, List·Memᴰ·head, List·Memᴰ·tail}
 use Prim.Native.Nat.{ℕ, zero, suc, _+_, _-_, _*_, _/_, _%_, _^_, _≤_, _<_}
@@ -15,20 +15,19 @@ use lib.Bits.{bitOr, bitAnd}
 use lib.Dec.{T, leb, eqb}
 use lib.ListN.{length, getD}
 use lib.Pow.{pow-mono}
-use Rattle.graph.specs.Decide.{own-test, eq-test, le-test, lt-test, and-test, by-test, same-test, test-true, test-false, false-is, answer, some-of, some-test, some-same}
+use Rattle.graph.specs.Decide.{Decides, own-test, eq-test, le-test, lt-test, and-test, or-test, by-test, same-test, test-true, test-false, false-is, answer, some-of, some-test, some-same}
 use Rattle.graph.specs.Lists.{_∈_, here, later, only-keeps, only-from}
 use Rattle.marks.specs.Marks.{bit, mask-of, upto, without}
-use Rattle.marks.specs.MarkLaws.{getD-tab, tab-same, upto-has, upto-from, bit-or, bit-pow, bit-same, bit-above, shl-one, test-mark}
+use Rattle.marks.specs.MarkLaws.{getD-tab, tab-same, upto-has, upto-from, bit-or, bit-pow, bit-same, bit-above, equal-test, shl-one, test-mark}
 use Rattle.marks.specs.Words.{marked, union, overlap}
 use Rattle.marks.specs.WordLaws.{Fit, overlap-test, marked-union, marked-at}
-use Rattle.history.specs.Events.{Kind, read, write}
-use Rattle.held.specs.Held.{Held, own-at, past-at, cell-at, word-at, number-at, leads-at, open-at, meets, touched, stepped-at, left-at, ended-at}
+use Rattle.history.specs.Events.{write}
+use Rattle.held.specs.Held.{Held, Aspect, as-used, as-altered, marks-word, own-at, past-at, cell-at, word-at, number-at, leads-at, open-at, meets, touched, stepped-at, left-at, ended-at}
 use Rattle.late.specs.Late.{named}
 use Rattle.late.specs.LateHeld.{put-down, leads-back}
 use Rattle.slots.specs.Lent.{lent, sets-only}
 use Rattle.slots.specs.Rows.{meets-some, gained-row, gained, joined-word, joined-own}
 use Rattle.slots.proofs.SetLaws.{Part, part-at}
-use Rattle.slots.proofs.ClashLaws.{meets-is}
 use Rattle.slots.proofs.RequestLaws.{lent-same}
 
 -- ---- a set of cells
@@ -64,6 +63,11 @@ overlaps-some {us} {ws} u v f e =
 
 -- ---- a row
 
+-- a write clashes with any sets that have the cell
+meets-write : (f : Aspect → ℕ → Bool) (c : ℕ) → meets f write c ≡ f as-used c || f as-altered c
+unfolding meets
+meets-write f c = refl
+
 module _ (l : List ℕ) (i : ℕ) where
   cell-mark : {ws : List ℕ} {at c : ℕ} (o : ℕ) → at ≡ i * 16 + o → Part l at ws → c < 256 → marked 64 ws c ≡ cell-at (sets-only l) i o c
   unfolding marked cell-at word-at
@@ -77,7 +81,7 @@ module _ (l : List ℕ) (i : ℕ) where
 
   module _ {rs ws past cells : List ℕ} (t : Part l (i * 16 + 8) rs) (t′ : Part l (i * 16 + 12) ws) (ep : past ≡ union rs ws) (v : Cells cells) (s : ℕ) where
     past-mark : {c : ℕ} → c < 256 → marked 64 past c ≡ meets (past-at (sets-only l) i) write c
-    past-mark {c} q = pair-mark 8 refl refl t t′ ep q ∙ sym (meets-is (past-at (sets-only l) i) true c)
+    past-mark {c} q = pair-mark 8 refl refl t t′ ep q ∙ sym (meets-write (past-at (sets-only l) i) c)
 
     -- the slot itself: its past alone counts
     pub meets-itself : {r : Bool} → Cells past → i ≡ s → r ≡ overlap past cells → r ≡ meets-some l s cells i
@@ -94,7 +98,7 @@ module _ (l : List ℕ) (i : ℕ) where
     meets-other {own = own} u u′ eo lo p ea a ne er =
         er ∙ overlaps-some a v (λ c. touched (sets-only l) write s c i)
         (λ c q. ap (λ (x : List ℕ). marked 64 x c) ea ∙ marked-union 64 past own c (p .four ∙ sym lo)
-        ∙ ap₂ _||_ (past-mark q) (pair-mark 0 (omega arith) refl u u′ eo q ∙ sym (meets-is (own-at (sets-only l) i) true c))
+        ∙ ap₂ _||_ (past-mark q) (pair-mark 0 (omega arith) refl u u′ eo q ∙ sym (meets-write (own-at (sets-only l) i) c))
         ∙ or-comm (meets (past-at (sets-only l) i) write c) (meets (own-at (sets-only l) i) write c)
         ∙ ap (λ (b : Bool). (not b && meets (own-at (sets-only l) i) write c) || meets (past-at (sets-only l) i) write c) (sym (test-false (eq-test i s) ne)))
 
@@ -117,31 +121,39 @@ or-again x g = known-by-marks (λ k. bit-or (bitOr x g) g k ∙ ap (λ (b : Bool
     go false true = refl
     go false false = refl
 
--- where the word of a written cell stands
-abbrev place : ℕ → ℕ → ℕ
-place s c = s * 16 + (4 + c / 64)
+-- the words that a write of the cell marks: the cell's among the used and among the altered
+abbrev Marked : ℕ → ℕ → ℕ → Type 0
+Marked s c w = (w ≡ s * 16 + (0 + c / 64)) ⊎ (w ≡ s * 16 + (4 + c / 64))
+
+marked-test : (s c w : ℕ) → Decides (marks-word write s c w) (Marked s c w)
+marked-test s c w =
+    equal-test (ap (λ (b : Bool). eqb w (s * 16 + (0 + c / 64)) || b) (or-false (eqb w (s * 16 + (4 + c / 64)))))
+    (or-test (eq-test w (s * 16 + (0 + c / 64))) (eq-test w (s * 16 + (4 + c / 64))))
 
 module _ (h : Held) (s : ℕ) (hs : s < 32) (c : ℕ) (hc : c < 256) where
   abbrev then : Held
   then = stepped-at h write s c
 
-  word-then : (w : ℕ) → w < 512 → getD (then .sets) w 0 ≡ cond (eqb w (place s c)) (bitOr (getD (h .sets) w 0) (2 ^ (c % 64))) (getD (h .sets) w 0)
+  word-then : (w : ℕ) → w < 512 → getD (then .sets) w 0 ≡ cond (marks-word write s c w) (bitOr (getD (h .sets) w 0) (2 ^ (c % 64))) (getD (h .sets) w 0)
   unfolding stepped-at
-  word-then w q = getD-tab 512 (λ w. cond (eqb w (place s c)) (bitOr (getD (h .sets) w 0) (2 ^ (c % 64))) (getD (h .sets) w 0)) w 0 q
+  word-then w q = getD-tab 512 (λ w. cond (marks-word write s c w) (bitOr (getD (h .sets) w 0) (2 ^ (c % 64))) (getD (h .sets) w 0)) w 0 q
 
-  word-kept : (w : ℕ) → w < 512 → (w ≡ place s c → ⊥) → getD (then .sets) w 0 ≡ getD (h .sets) w 0
-  word-kept w q n = word-then w q ∙ ap (λ (b : Bool). cond b (bitOr (getD (h .sets) w 0) (2 ^ (c % 64))) (getD (h .sets) w 0)) (test-false (eq-test w (place s c)) n)
+  word-kept : (w : ℕ) → w < 512 → (Marked s c w → ⊥) → getD (then .sets) w 0 ≡ getD (h .sets) w 0
+  word-kept w q n = word-then w q ∙ ap (λ (b : Bool). cond b (bitOr (getD (h .sets) w 0) (2 ^ (c % 64))) (getD (h .sets) w 0)) (test-false (marked-test s c w) n)
 
   leads-then : (i : ℕ) → i < 32 → leads-at then i ≡ cond (open-at h i && touched h write s c i) (bitOr (leads-at h i) (2 ^ s)) (leads-at h i)
   unfolding stepped-at leads-at
   leads-then i q = getD-tab 32 (λ i. cond (open-at h i && touched h write s c i) (bitOr (getD (h .leads) i 0) (2 ^ s)) (getD (h .leads) i 0)) i 0 q
 
-  cell-kept : (i o x : ℕ) → x < 256 → i < 32 → o ≤ 12 → (i * 16 + (o + x / 64) ≡ place s c → ⊥) → cell-at then i o x ≡ cell-at h i o x
+  -- it stays in another row, and in the past
+  cell-kept : (i o x : ℕ) → x < 256 → i < 32 → o ≤ 12 → ((i ≡ s) × (o < 8) → ⊥) → cell-at then i o x ≡ cell-at h i o x
   unfolding cell-at word-at
-  cell-kept i o x qx qi qo n = ap (λ (w : ℕ). bit w (x % 64)) (word-kept (i * 16 + (o + x / 64)) (omega arith) n)
+  cell-kept i o x qx qi qo n =
+      ap (λ (w : ℕ). bit w (x % 64))
+      (word-kept (i * 16 + (o + x / 64)) (omega arith) (⊎-elim (λ e. n (omega arith, omega arith)) (λ e. n (omega arith, omega arith))))
 
-  meets-kept : (f g : Kind → ℕ → Bool) (x : ℕ) → f read x ≡ g read x → f write x ≡ g write x → meets f write x ≡ meets g write x
-  meets-kept f g x a b = meets-is f true x ∙ ap₂ _||_ a b ∙ sym (meets-is g true x)
+  meets-kept : (f g : Aspect → ℕ → Bool) (x : ℕ) → f as-used x ≡ g as-used x → f as-altered x ≡ g as-altered x → meets f write x ≡ meets g write x
+  meets-kept f g x a b = meets-write f x ∙ ap₂ _||_ a b ∙ sym (meets-write g x)
 
   -- whom a write touches, the writes before it do not change
   touched-then : (x i : ℕ) → x < 256 → i < 32 → touched then write s x i ≡ touched h write s x i
@@ -149,7 +161,7 @@ module _ (h : Held) (s : ℕ) (hs : s < 32) (c : ℕ) (hc : c < 256) where
   touched-then x i qx qi =
       ap₂ _||_
       (by-test (λ (b : Bool). not b && meets (own-at then i) write x ≡ not b && meets (own-at h i) write x) (eq-test i s) (λ e. refl)
-      (λ n. meets-kept (own-at then i) (own-at h i) x (cell-kept i 0 x qx qi (omega arith) (λ e. omega arith)) (cell-kept i 4 x qx qi (omega arith) (λ e. n (omega arith)))))
+      (λ n. meets-kept (own-at then i) (own-at h i) x (cell-kept i 0 x qx qi (omega arith) (λ e. n (e .0))) (cell-kept i 4 x qx qi (omega arith) (λ e. n (e .0)))))
       (meets-kept (past-at then i) (past-at h i) x (cell-kept i 8 x qx qi (omega arith) (λ e. omega arith)) (cell-kept i 12 x qx qi (omega arith) (λ e. omega arith)))
 
 abbrev Small : List ℕ → Type 0
@@ -175,7 +187,7 @@ down-leads h s hs (c ∷ cs) small i q =
 -- a word x at w, after them
 abbrev grown : ℕ → List ℕ → ℕ → ℕ → ℕ
 grown s [] w x = x
-grown s (c ∷ cs) w x = grown s cs w (cond (eqb w (place s c)) (bitOr x (2 ^ (c % 64))) x)
+grown s (c ∷ cs) w x = grown s cs w (cond (marks-word write s c w) (bitOr x (2 ^ (c % 64))) x)
 
 down-sets : (h : Held) (s : ℕ) → s < 32 → (cs : List ℕ) → Small cs → (w : ℕ) → w < 512 → getD (put-down h s cs .sets) w 0 ≡ grown s cs w (getD (h .sets) w 0)
 down-sets h s hs [] small w q = refl
@@ -183,50 +195,55 @@ down-sets h s hs (c ∷ cs) small w q =
     down-sets (stepped-at h write s c) s hs cs (λ x m. small x (later m)) w q ∙ ap (grown s cs w) (word-then h s hs c (small c here) w q)
 
 abbrev at-mark : ℕ → ℕ → ℕ → ℕ → Bool
-at-mark s w k c = eqb w (place s c) && eqb k (c % 64)
+at-mark s w k c = marks-word write s c w && eqb k (c % 64)
 
 grown-mark : (s : ℕ) (cs : List ℕ) (w x k : ℕ) → bit (grown s cs w x) k ≡ bit x k || some-of (at-mark s w k) cs
 grown-mark s [] w x k = sym (or-false (bit x k))
 grown-mark s (c ∷ cs) w x k =
-    grown-mark s cs w (cond (eqb w (place s c)) (bitOr x (2 ^ (c % 64))) x) k
-    ∙ ap (λ (b : Bool). b || some-of (at-mark s w k) cs) (go (eqb w (place s c)))
+    grown-mark s cs w (cond (marks-word write s c w) (bitOr x (2 ^ (c % 64))) x) k
+    ∙ ap (λ (b : Bool). b || some-of (at-mark s w k) cs) (go (marks-word write s c w))
     ∙ or-assoc (bit x k) (at-mark s w k c) (some-of (at-mark s w k) cs)
   where
     go : (b : Bool) → bit (cond b (bitOr x (2 ^ (c % 64))) x) k ≡ bit x k || (b && eqb k (c % 64))
     go true = bit-or x (2 ^ (c % 64)) k ∙ ap (λ (b : Bool). bit x k || b) (bit-pow (c % 64) k)
     go false = sym (or-false (bit x k))
 
--- of all cells of the set: those words gain that stand in the slot's own writes, each the set's word
+-- of all cells of the set: the words of the slot's own sets gain, each the set's word
 pub joined-law : {ws : List ℕ} (sets : List ℕ) (s w : ℕ) → Cells ws → grown s (named ws) w (getD sets w 0) ≡ joined-word sets s ws w
 unfolding marked
 joined-law {ws} sets s w v =
     known-by-marks (λ k.
-    grown-mark s (named ws) w x k ∙ ap (λ (b : Bool). bit x k || b) (marks k) ∙ sym (go (leb (s * 16 + 4) w && leb w (s * 16 + 4 + 3)) k))
+    grown-mark s (named ws) w x k ∙ ap (λ (b : Bool). bit x k || b) (marks k) ∙ sym (go (leb (s * 16) w && leb w (s * 16 + 7)) k))
   where
     x : ℕ
     x = getD sets w 0
 
     y : ℕ
-    y = getD ws (w - (s * 16 + 4)) 0
+    y = getD ws (w % 4) 0
 
     inside : (k : ℕ) → T (bit y k) → k < 64
-    inside k t = ⊎-elim (λ q. q) (λ n. absurd (false-is (bit-above 64 y k (v .fits (w - (s * 16 + 4))) (omega arith)) t)) (answer (lt-test k 64))
+    inside k t = ⊎-elim (λ q. q) (λ n. absurd (false-is (bit-above 64 y k (v .fits (w % 4)) (omega arith)) t)) (answer (lt-test k 64))
 
-    marks : (k : ℕ) → some-of (at-mark s w k) (named ws) ≡ (leb (s * 16 + 4) w && leb w (s * 16 + 4 + 3)) && bit y k
+    -- a cell's word is its own in either set
+    word-of : (c : ℕ) → c < 256 → Marked s c w → (s * 16 ≤ w) × (w ≤ s * 16 + 7) × (c / 64 ≡ w % 4)
+    word-of c q (inl e) = (omega arith, omega arith, omega arith)
+    word-of c q (inr e) = (omega arith, omega arith, omega arith)
+
+    marked-by : (c : ℕ) → c / 64 ≡ w % 4 → s * 16 ≤ w → w ≤ s * 16 + 7 → Marked s c w
+    marked-by c e a b = ⊎-elim (λ r. inl (omega arith)) (λ r. inr (omega arith)) (answer (le-test w (s * 16 + 3)))
+
+    marks : (k : ℕ) → some-of (at-mark s w k) (named ws) ≡ (leb (s * 16) w && leb w (s * 16 + 7)) && bit y k
     marks k =
-        same-test (some-test (λ c. and-test (eq-test w (place s c)) (eq-test k (c % 64))) (named ws))
-        (and-test (and-test (le-test (s * 16 + 4) w) (le-test w (s * 16 + 4 + 3))) (own-test (bit y k)))
+        same-test (some-test (λ c. and-test (marked-test s c w) (eq-test k (c % 64))) (named ws))
+        (and-test (and-test (le-test (s * 16) w) (le-test w (s * 16 + 7))) (own-test (bit y k)))
         (λ r.
         let f = named-from ws (r .1) in
-        let q = f .0 in
-        let e = r .2 .0 in
-        ((omega arith, omega arith), subst₂ (λ (i m : ℕ). T (bit (getD ws i 0) m)) (omega arith) (sym (r .2 .1)) (f .1)))
+        let e = word-of (r .0) (f .0) (r .2 .0) in
+        ((e .0, e .1), subst₂ (λ (i m : ℕ). T (bit (getD ws i 0) m)) (e .2) (sym (r .2 .1)) (f .1)))
         (λ r.
         let q = inside k (r .1) in
-        let a = r .0 .0 in
-        let b = r .0 .1 in
-        let p = w - (s * 16 + 4) in
-        (p * 64 + k, named-has ws (omega arith) (subst T (sym (marked-at ws p q)) (r .1)), (omega arith, omega arith)))
+        let p = w % 4 in
+        (p * 64 + k, named-has ws (omega arith) (subst T (sym (marked-at ws p q)) (r .1)), (marked-by (p * 64 + k) (omega arith) (r .0 .0) (r .0 .1), omega arith)))
 
     go : (b : Bool) (k : ℕ) → bit (cond b (bitOr x y) x) k ≡ bit x k || (b && bit y k)
     go true k = bit-or x y k

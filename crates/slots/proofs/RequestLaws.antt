@@ -3,12 +3,12 @@
 -- First names for what the callees ensure, so that each law takes a contract's text as it stands. Then what the tests of the code say of a state: the slot that
 -- it finds by the lowest mark of a mask is the first that passes the mask's test (`slot-none`, `slot-found`, `free-first`), the count of free marks tells a full
 -- state (`count-full`), the masks made before the new leads stand tell a circle that they would close (`circle-law`), an empty set of words tells that
--- nothing was written (`altered-law`). Then the codes of any state, by what each test comes to. Last a law for each way out of a request (`does-..`) and
+-- nothing was altered (`altered-law`). Then the codes of any state, by what each test comes to. Last a law for each way out of a request (`does-..`) and
 -- for each arm of a step (`steps-..`): from the branches taken and what the callees ensure to what the contract says.
 -- Assumes nothing.
 use mathlib.Core.Path.{_≡_, refl, sym, ap, ap₂, _∙_, subst, subst₃}
 use mathlib.Core.Logic.{_⊎_, inl, inr, ⊎-elim}
-use mathlib.Core.Bool.{Bool, true, false, not, _&&_, _||_, cond, and-false, or-false}
+use mathlib.Core.Bool.{Bool, true, false, not, _&&_, _||_, cond, and-false}
 use mathlib.Core.Option.{Option, none, some}
 use mathlib.Core.List.{List, _∷_}
 use Prim.Native.Nat.{ℕ, zero, suc, _+_, _-_, _*_, _/_, _%_, _^_, _≤_, _<_, suc-le-suc}
@@ -33,13 +33,15 @@ use Rattle.history.specs.Events.{Kind, write}
 use Rattle.history.specs.Formats.{request-of}
 use Rattle.history.specs.Replies.{Request, Reply, Want, an-open, a-step, an-end, an-abandon, a-publish, want, tests, code-of, job-of, reply-of}
 use Rattle.history.specs.ReplyLaws.{as-kind}
-use Rattle.held.specs.Held.{Held, first-in, is-some, at-slot, with-slot, set-place, open-at, open-slots, number-at, leads-at, word-at, cell-at, slot-of, free-slot}
+use Rattle.held.specs.Held.{Held, first-in, is-some, at-slot, with-slot, open-at, open-slots, number-at, leads-at, word-at, cell-at, slot-of, free-slot}
 use Rattle.held.specs.Held.{set-at, touched, chain-back, altered, facts, has-past, opened-at, stepped-at, left-at, ended-at, abandoned-at, moved, answer-to, after}
 use Rattle.held.specs.HeldBlank.{publish-held}
 use Rattle.slots.specs.Lent.{lent, sets-only, numbered, kind-of, code-for, Does, Steps}
 use Rattle.slots.specs.Rows.{is-open, holds, leads-to, reaches, touches, theirs, gained-word, folded-word, put, struck, gained-row, gained, blanked, folded, marked-own}
 use Rattle.slots.specs.declared.Answer.{Answer}
 use Rattle.slots.specs.declared.Answer.the-variants.{Granted, Malformed, NoCell, NotOpen, HasWritten, Full, Spent, Circle}
+use Rattle.slots.specs.declared.Deed.{Deed}
+use Rattle.slots.specs.declared.Deed.the-variants.{Read, Write, Add}
 use Rattle.slots.specs.declared.JobNumber.{JobNumber}
 use Rattle.slots.specs.declared.Moved.{Moved}
 use Rattle.slots.proofs.SetLaws.{Part}
@@ -275,7 +277,7 @@ circle-law h k s c es et em inside was-open = circle-tested (h .free) (h .leads)
 -- the code takes its words out of the list
 pub altered-law : {words : List ℕ} (h : Held) (s : ℕ) → Part (h .sets) (s * 16 + 4) words → altered h s ≡ not (empty words)
 unfolding altered
-altered-law h s t = or-false (not (empty (set-at h s 4))) ∙ ap (λ (l : List ℕ). not (empty l)) (set-law h s 4 t)
+altered-law h s t = ap (λ (l : List ℕ). not (empty l)) (set-law h s 4 t)
 
 -- ---- the codes of any state, by what the tests come to
 
@@ -368,48 +370,43 @@ does-open-granted {h} {j} {c} fits q ne ns eb ls ms ss =
 -- ---- a step of a slot that is found
 
 -- what it has looked up before it tests for a circle: the slots that touch its own, and those that are reached from it
-pub record Looked (h : Held) (writes : Bool) (j c s into-s seen : ℕ) : Type 0 where
+pub record Looked (h : Held) (d : Deed) (j c s into-s seen : ℕ) : Type 0 where
   pub cell-lt : c < 256
   pub found : Found h j s
-  pub touching : into-s ≡ mask-of 32 (touches (h .free) (h .sets) (kind-of writes) s (c % 256))
+  pub touching : into-s ≡ mask-of 32 (touches (h .free) (h .sets) (kind-of d) s (c % 256))
   pub reached : seen ≡ mask-of 32 (reaches (h .free) (h .leads) s)
 
 -- what it tests then
 abbrev pub circle-code : ℕ → ℕ → ℕ → ℕ
 circle-code s into-s seen = bitOr (bitAnd seen (mark s)) (bitAnd (bitOr seen (mark s)) into-s)
 
--- where the set of a kind stands
-own-place : (writes : Bool) → cond writes 4 0 ≡ set-place (kind-of writes)
-own-place true = refl
-own-place false = refl
-
 -- rows that gain by a mask gain by the mask's rule
 pub gained-by : (leads : List ℕ) (p : ℕ → Bool) (gain : ℕ) {from : ℕ} → from ≡ mask-of 32 p → gained leads (bit from) gain ≡ gained leads p gain
 gained-by leads p gain {from} e =
     tab-same 32 (gained-row leads (bit from) gain) (gained-row leads p gain) (λ i q. ap (λ (b : Bool). cond b (bitOr (getD leads i 0) gain) (getD leads i 0)) (bit-of 32 p e i q))
 
-module _ {h : Held} {writes : Bool} {j c s into-s seen : ℕ} (l : Looked h writes j c s into-s seen) where
-  touched-here : into-s ≡ mask-of 32 (touches (h .free) (h .sets) (kind-of writes) s c)
-  touched-here = l .touching ∙ ap (λ (x : ℕ). mask-of 32 (touches (h .free) (h .sets) (kind-of writes) s x)) (mod-eq-of-lt (l .cell-lt))
+module _ {h : Held} {d : Deed} {j c s into-s seen : ℕ} (l : Looked h d j c s into-s seen) where
+  touched-here : into-s ≡ mask-of 32 (touches (h .free) (h .sets) (kind-of d) s c)
+  touched-here = l .touching ∙ ap (λ (x : ℕ). mask-of 32 (touches (h .free) (h .sets) (kind-of d) s x)) (mod-eq-of-lt (l .cell-lt))
 
-  step-code : {b : Bool} → not (eqb (circle-code s into-s seen) 0) ≡ b → code-for h (a-step (kind-of writes)) j c ≡ cond b 7 0
+  step-code : {b : Bool} → not (eqb (circle-code s into-s seen) 0) ≡ b → code-for h (a-step (kind-of d)) j c ≡ cond b 7 0
   step-code r =
       let o = l .found in
-      code-step h (kind-of writes) j c (lt-leb 256 c (l .cell-lt)) (l .found .first)
-      (circle-law h (kind-of writes) s c (l .reached) touched-here (shl-one 32 (o .inside)) (o .inside) (o .was-open) ∙ r)
+      code-step h (kind-of d) j c (lt-leb 256 c (l .cell-lt)) (l .found .first)
+      (circle-law h (kind-of d) s c (l .reached) touched-here (shl-one 32 (o .inside)) (o .inside) (o .was-open) ∙ r)
 
-  pub does-step-circle : {r : Moved} → (circle-code s into-s seen ≡ 0 → ⊥) → Refused h Circle r → Does h (a-step (kind-of writes)) j c r (h .numbers) (h .leads) (h .sets)
+  pub does-step-circle : {r : Moved} → (circle-code s into-s seen ≡ 0 → ⊥) → Refused h Circle r → Does h (a-step (kind-of d)) j c r (h .numbers) (h .leads) (h .sets)
   does-step-circle f = refuses 7 (step-code (ap not (ne-eqb (circle-code s into-s seen) 0 f))) refl refl
 
   pub does-step-granted : {job : JobNumber} {leads sets : List ℕ} → job .0 ≡ j → circle-code s into-s seen ≡ 0
-      → leads ≡ gained (h .leads) (bit into-s) (2 ^ s) → sets ≡ marked-own (h .sets) s (cond writes 4 0) (c % 256)
-      → Does h (a-step (kind-of writes)) j c (record { next = h .next; free = h .free; answer = Granted job }) (h .numbers) leads sets
+      → leads ≡ gained (h .leads) (bit into-s) (2 ^ s) → sets ≡ marked-own (h .sets) s (kind-of d) (c % 256)
+      → Does h (a-step (kind-of d)) j c (record { next = h .next; free = h .free; answer = Granted job }) (h .numbers) leads sets
   unfolding moved stepped-at open-at leads-at touched cell-at word-at job-of
   does-step-granted n z ls ss =
       does-by 0 (step-code (ap not (eq-eqb (circle-code s into-s seen) 0 z))) (λ i. record { code = 0; job = n i })
-      (lent-same refl refl refl (ls ∙ gained-by (h .leads) (touches (h .free) (h .sets) (kind-of writes) s c) (2 ^ s) touched-here)
-      (ss ∙ ap₂ (marked-own (h .sets) s) (own-place writes) (mod-eq-of-lt (l .cell-lt)))
-      ∙ ap (λ (o : Option ℕ). with-slot o (λ s. stepped-at h (kind-of writes) s c) h) (sym (l .found .first)))
+      (lent-same refl refl refl (ls ∙ gained-by (h .leads) (touches (h .free) (h .sets) (kind-of d) s c) (2 ^ s) touched-here)
+      (ss ∙ ap (marked-own (h .sets) s (kind-of d)) (mod-eq-of-lt (l .cell-lt)))
+      ∙ ap (λ (o : Option ℕ). with-slot o (λ s. stepped-at h (kind-of d) s c) h) (sym (l .found .first)))
 
 -- ---- a slot that is left
 
@@ -537,10 +534,17 @@ steps-by {h} b n e a l =
       left = l ∙ ap (state-at h (want (getD b 0 0)) (request-of b .job) (request-of b .cell)) (sym e);
     }
 
-step-want : (writes : Bool) → want (cond writes 3 2) ≡ a-step (kind-of writes)
+-- the kind of request that asks for a deed
+abbrev pub asked-by : Deed → ℕ
+asked-by Read = 2
+asked-by Write = 3
+asked-by Add = 7
+
+step-want : (d : Deed) → want (asked-by d) ≡ a-step (kind-of d)
 unfolding want
-step-want true = refl
-step-want false = refl
+step-want Read = refl
+step-want Write = refl
+step-want Add = refl
 
 module _ {h : Held} {r : Moved} (b : List ℕ) where
   malformed : code-of (facts h) (request-of b) ≡ 1 → Refused h Malformed r → Steps h (request-of b) r (h .numbers) (h .leads) (h .sets)
@@ -550,13 +554,13 @@ module _ {h : Held} {r : Moved} (b : List ℕ) where
   steps-byte ne = malformed (code-byte h b (ne-eqb (getD b 1 0) 0 ne))
 
   module _ (z : getD b 1 0 ≡ 0) where
-    -- the kind is none of the six, as the last arm of a match says it
-    pub steps-kind : (((((Unit {0} × (getD b 0 0 ≡ 1 → ⊥)) × (getD b 0 0 ≡ 2 → ⊥)) × (getD b 0 0 ≡ 3 → ⊥)) × (getD b 0 0 ≡ 4 → ⊥)) × (getD b 0 0 ≡ 5 → ⊥)) × (getD b 0 0 ≡ 6 → ⊥)
+    -- the kind is none of the seven, as the last arm of a match says it
+    pub steps-kind : ((((((Unit {0} × (getD b 0 0 ≡ 1 → ⊥)) × (getD b 0 0 ≡ 2 → ⊥)) × (getD b 0 0 ≡ 3 → ⊥)) × (getD b 0 0 ≡ 4 → ⊥)) × (getD b 0 0 ≡ 5 → ⊥)) × (getD b 0 0 ≡ 6 → ⊥)) × (getD b 0 0 ≡ 7 → ⊥)
         → Refused h Malformed r → Steps h (request-of b) r (h .numbers) (h .leads) (h .sets)
     unfolding want code-for tests
     steps-kind n =
         let k = getD b 0 0 in
-        malformed (code-byte h b (eq-eqb (getD b 1 0) 0 z) ∙ rw (ne-eqb k 1 (n .0 .0 .0 .0 .0 .1), ne-eqb k 2 (n .0 .0 .0 .0 .1), ne-eqb k 3 (n .0 .0 .0 .1), ne-eqb k 4 (n .0 .0 .1), ne-eqb k 5 (n .0 .1), ne-eqb k 6 (n .1)) refl)
+        malformed (code-byte h b (eq-eqb (getD b 1 0) 0 z) ∙ rw (ne-eqb k 1 (n .0 .0 .0 .0 .0 .0 .1), ne-eqb k 2 (n .0 .0 .0 .0 .0 .1), ne-eqb k 3 (n .0 .0 .0 .0 .1), ne-eqb k 4 (n .0 .0 .0 .1), ne-eqb k 5 (n .0 .0 .1), ne-eqb k 6 (n .0 .1), ne-eqb k 7 (n .1)) refl)
 
     -- a well-formed request does what is done for its kind. Only a step and a publish look at the cell, and an open not at the job either
     module _ {numbers leads sets : List ℕ} where
@@ -564,9 +568,9 @@ module _ {h : Held} {r : Moved} (b : List ℕ) where
           → Steps h (request-of b) r numbers leads sets
       steps-does ew ej ec d = let e = subst₃ (λ w j c. Does h w j c r numbers leads sets) (sym ew) ej ec d in steps-by b _ (code-byte h b (eq-eqb (getD b 1 0) 0 z)) (e .answered) (e .left)
 
-      pub steps-step : (writes : Bool) {j c : ℕ} → getD b 0 0 ≡ cond writes 3 2 → j ≡ request-of b .job → c ≡ request-of b .cell
-          → Does h (a-step (kind-of writes)) j c r numbers leads sets → Steps h (request-of b) r numbers leads sets
-      steps-step writes k = steps-does (ap want k ∙ step-want writes)
+      pub steps-step : (d : Deed) {j c : ℕ} → getD b 0 0 ≡ asked-by d → j ≡ request-of b .job → c ≡ request-of b .cell
+          → Does h (a-step (kind-of d)) j c r numbers leads sets → Steps h (request-of b) r numbers leads sets
+      steps-step d k = steps-does (ap want k ∙ step-want d)
 
       pub steps-publish : {j c : ℕ} → getD b 0 0 ≡ 6 → j ≡ request-of b .job → c ≡ request-of b .cell
           → Does h a-publish j c r numbers leads sets → Steps h (request-of b) r numbers leads sets

@@ -1,13 +1,14 @@
 -- The lent sets, word by word, as tables.
 --
 -- In order: words that code stores one after the other (`written`), four of them (`written-set`) or a row of zeros (`written-blank`); four words that are
--- taken out (`Part`), changed and stored back, with one mark more (`marked-set`), joined with a set (`joined-set`) or with two other fours (`gained-set`); a row's past that gains own and
+-- taken out (`Part`), changed and stored back, joined with a set (`joined-set`, and two fours after each other `joined-both`) or with two other fours (`gained-set`); a word that gains a mark (`put-mark`), by a step in
+-- one own set (`put-read`, `put-add`) or in both (`put-write`); a row's past that gains own and
 -- past of another row (`taken-over`), and a loop that does so for every row of a mask (`Folding`). How many words there are is a parameter, m.
 -- Loops over the marks of a mask in general are in the crate marks (MaskLaws), and what words say of clashes is in ClashLaws.
 -- Assumes nothing.
 use mathlib.Core.Path.{_≡_, refl, sym, ap, ap₂, _∙_, subst}
 use mathlib.Core.Logic.{⊎-elim}
-use mathlib.Core.Bool.{Bool, true, false, _&&_, cond}
+use mathlib.Core.Bool.{Bool, true, false, _&&_, _||_, cond, or-false}
 use mathlib.Core.List.{List, []}
 use Prim.Native.Nat.{ℕ, zero, suc, _+_, _-_, _*_, _/_, _%_, _^_, _≤_, _<_}
 use native.Mathlib.Nat.{add-zero}
@@ -21,9 +22,10 @@ use Rattle.graph.specs.Decide.{Decides, answer, false-is, by-test, eq-test, le-
 use Rattle.marks.specs.Marks.{bit, tab}
 use Rattle.marks.specs.MarkLaws.{length-tab, getD-tab, tab-same, lowest-mark}
 use Rattle.marks.specs.MaskLaws.{tab-of, getD-set, Visiting, visit-start, visit-turn, visit-kept, visit-end}
-use Rattle.marks.specs.Words.{with-mark, union}
+use Rattle.marks.specs.Words.{union}
 use Rattle.cells.proofs.Laws.{written-out}
-use Rattle.slots.specs.Rows.{gained-word, folded-word}
+use Rattle.history.specs.Events.{read, write, add}
+use Rattle.slots.specs.Rows.{gained-word, folded-word, put-own, marked-own, joined-word}
 
 -- ---- words stored one after the other
 
@@ -98,28 +100,6 @@ part-out at l h = sym (part-tab {l = l} {at = at} (record { four = simp (length-
 abbrev put : List ℕ → ℕ → List ℕ → ℕ → ℕ
 put l at vs w = cond (leb at w && leb w (at + 3)) (getD vs (w - at) 0) (getD l w 0)
 
--- They gain the mark c, which goes into the word at p, word c / 64 of them.
-pub marked-set : {ws vs : List ℕ} {p : ℕ} (m : ℕ) (l : List ℕ) (at c : ℕ) → c < 256 → Part l at ws → vs ≡ with-mark 64 ws c → p ≡ at + c / 64
-    → tab m (put l at vs) ≡ tab m (λ w. cond (eqb w p) (bitOr (getD l w 0) (2 ^ (c % 64))) (getD l w 0))
-unfolding with-mark
-marked-set {ws} {vs} {p} m l at c h t new place =
-    tab-same m _ _ (λ w q. by-test (λ (b : Bool). put l at vs w ≡ cond b (bitOr (getD l w 0) (2 ^ (c % 64))) (getD l w 0)) (eq-test w p) (here w) (other w))
-  where
-    x : ℕ
-    x = bitOr (getD ws (c / 64) 0) (2 ^ (c % 64))
-
-    here : (w : ℕ) → w ≡ p → put l at vs w ≡ bitOr (getD l w 0) (2 ^ (c % 64))
-    here w e =
-        ap (λ (b : Bool). cond b (getD vs (w - at) 0) (getD l w 0)) (test-true (within at w) (omega arith))
-        ∙ ap₂ (λ (v : List ℕ) (k : ℕ). getD v k 0) new (omega arith) ∙ getD-set-same ws (c / 64) x 0 (omega (arith, t .four))
-        ∙ ap (λ (y : ℕ). bitOr y (2 ^ (c % 64))) (part-at (c / 64) t (omega arith) ∙ ap (λ (k : ℕ). getD l k 0) (omega arith))
-
-    other : (w : ℕ) → (w ≡ p → ⊥) → put l at vs w ≡ getD l w 0
-    other w ne =
-        by-test (λ (b : Bool). cond b (getD vs (w - at) 0) (getD l w 0) ≡ getD l w 0) (within at w)
-        (λ r. ap (λ (v : List ℕ). getD v (w - at) 0) new ∙ getD-set-other ws (c / 64) (w - at) x 0 (λ e. ne (omega arith))
-        ∙ part-at (w - at) t (omega arith) ∙ ap (λ (k : ℕ). getD l k 0) (omega arith)) (λ f. refl)
-
 -- They are joined with the words of a set.
 pub joined-set : {ws ys : List ℕ} (m : ℕ) (l : List ℕ) (at : ℕ) (vs : List ℕ) → Part l at ws → length vs ≡ 4 → ys ≡ union ws vs
     → tab m (put l at ys) ≡ tab m (λ w. cond (leb at w && leb w (at + 3)) (bitOr (getD l w 0) (getD vs (w - at) 0)) (getD l w 0))
@@ -134,6 +114,72 @@ joined-set {ws} {ys} m l at vs t four ey =
 
     whole : ys ≡ tab 4 sum
     whole = ey ∙ ap₂ union (part-tab t) (sym (written-out 4 vs four))
+
+-- The eight words of the row s from its first on, as two fours after each other.
+pub joined-both : {l₁ l₂ : List ℕ} (m : ℕ) (l : List ℕ) (s : ℕ) (vs : List ℕ)
+    → l₁ ≡ tab m (λ w. cond (leb (s * 16) w && leb w (s * 16 + 3)) (bitOr (getD l w 0) (getD vs (w - s * 16) 0)) (getD l w 0))
+    → l₂ ≡ tab m (λ w. cond (leb (s * 16 + 4) w && leb w (s * 16 + 4 + 3)) (bitOr (getD l₁ w 0) (getD vs (w - (s * 16 + 4)) 0)) (getD l₁ w 0))
+    → l₂ ≡ tab m (joined-word l s vs)
+joined-both {l₁} {l₂} m l s vs e₁ e₂ =
+    e₂ ∙ tab-same m _ _ (λ w q.
+    by-test (λ (t : Bool). cond t (bitOr (getD l₁ w 0) (getD vs (w - (s * 16 + 4)) 0)) (getD l₁ w 0) ≡ joined-word l s vs w) (within (s * 16 + 4) w)
+    (λ i. ap₂ bitOr (first w q ∙ ap (λ (t : Bool). cond t (new w) (getD l w 0)) (test-false (within (s * 16) w) (λ r. omega arith))) (ap (λ (k : ℕ). getD vs k 0) (omega arith))
+    ∙ whole w (omega arith) (omega arith))
+    (λ f. first w q ∙ by-test (λ (t : Bool). cond t (new w) (getD l w 0) ≡ joined-word l s vs w) (within (s * 16) w)
+    (λ i. ap (λ (k : ℕ). bitOr (getD l w 0) (getD vs k 0)) (omega arith) ∙ whole w (omega arith) (omega arith))
+    (λ g. ap (λ (t : Bool). cond t (bitOr (getD l w 0) (getD vs (w % 4) 0)) (getD l w 0))
+    (sym (test-false (eight w) (λ i. ⊎-elim (λ r. g (omega arith)) (λ r. f (omega arith)) (answer (le-test w (s * 16 + 3)))))))))
+  where
+    new : ℕ → ℕ
+    new w = bitOr (getD l w 0) (getD vs (w - s * 16) 0)
+
+    eight : (w : ℕ) → Decides (leb (s * 16) w && leb w (s * 16 + 7)) ((s * 16 ≤ w) × (w ≤ s * 16 + 7))
+    eight w = and-test (le-test (s * 16) w) (le-test w (s * 16 + 7))
+
+    first : (w : ℕ) → w < m → getD l₁ w 0 ≡ cond (leb (s * 16) w && leb w (s * 16 + 3)) (new w) (getD l w 0)
+    first w q = ap (λ (v : List ℕ). getD v w 0) e₁ ∙ getD-tab m (λ w. cond (leb (s * 16) w && leb w (s * 16 + 3)) (new w) (getD l w 0)) w 0 q
+
+    whole : (w : ℕ) → s * 16 ≤ w → w ≤ s * 16 + 7 → bitOr (getD l w 0) (getD vs (w % 4) 0) ≡ joined-word l s vs w
+    whole w a b = ap (λ (t : Bool). cond t (bitOr (getD l w 0) (getD vs (w % 4) 0)) (getD l w 0)) (sym (test-true (eight w) (a, b)))
+
+-- ---- a word that gains a mark
+
+-- the word at p
+abbrev marked-at : List ℕ → ℕ → ℕ → ℕ → ℕ
+marked-at l p x w = cond (eqb w p) (bitOr (getD l w 0) x) (getD l w 0)
+
+pub put-mark : {p q x y : ℕ} (m : ℕ) (l : List ℕ) → length l ≡ m → p < m → p ≡ q → x ≡ y → set l p (bitOr (getD l p 0) x) ≡ tab m (marked-at l q y)
+put-mark {p} {q} {x} {y} m l e h ep ex =
+    tab-of (length-set l p (bitOr (getD l p 0) x) ∙ e) (λ w r.
+    getD-set l p (bitOr (getD l p 0) x) w (omega arith)
+    ∙ by-test (λ (b : Bool). cond b (bitOr (getD l p 0) x) (getD l w 0) ≡ cond b (bitOr (getD l w 0) x) (getD l w 0)) (eq-test w p)
+    (λ i. ap (λ (k : ℕ). bitOr (getD l k 0) x) (sym i)) (λ n. refl)
+    ∙ ap₂ (λ (k z : ℕ). marked-at l k z w) ep ex)
+
+-- a read puts its mark among the used cells alone, an add among the altered
+pub put-read : (l : List ℕ) (s c : ℕ) → put-own l s 0 c ≡ marked-own l s read c
+put-read l s c =
+    tab-same 512 _ _ (λ w q. ap (λ (b : Bool). cond b (bitOr (getD l w 0) (2 ^ (c % 64))) (getD l w 0)) (sym (or-false (eqb w (s * 16 + (0 + c / 64))))))
+
+pub put-add : (l : List ℕ) (s c : ℕ) → put-own l s 4 c ≡ marked-own l s add c
+put-add l s c =
+    tab-same 512 _ _ (λ w q. ap (λ (b : Bool). cond b (bitOr (getD l w 0) (2 ^ (c % 64))) (getD l w 0)) (sym (or-false (eqb w (s * 16 + (4 + c / 64))))))
+
+-- and a write among both, one after the other
+pub put-write : {l₁ l₂ : List ℕ} (l : List ℕ) (s c : ℕ) → l₁ ≡ put-own l s 0 c → l₂ ≡ put-own l₁ s 4 c → l₂ ≡ marked-own l s write c
+put-write {l₁} {l₂} l s c e₁ e₂ =
+    e₂ ∙ tab-same 512 _ _ (λ w q.
+    let a = eqb w (s * 16 + (0 + c / 64)) in
+    ap (λ (y : ℕ). cond (eqb w (s * 16 + (4 + c / 64))) (bitOr y x) y) (ap (λ (v : List ℕ). getD v w 0) e₁ ∙ getD-tab 512 (marked-at l (s * 16 + (0 + c / 64)) x) w 0 q)
+    ∙ by-test (λ (b : Bool). cond b (bitOr (once w a) x) (once w a) ≡ once w (a || (b || false))) (eq-test w (s * 16 + (4 + c / 64)))
+    (λ i. subst (λ (b : Bool). bitOr (once w b) x ≡ once w (b || true)) (sym (test-false (eq-test w (s * 16 + (0 + c / 64))) (λ j. omega arith))) refl)
+    (λ n. ap (once w) (sym (or-false a))))
+  where
+    x : ℕ
+    x = 2 ^ (c % 64)
+
+    once : ℕ → Bool → ℕ
+    once w b = cond b (bitOr (getD l w 0) x) (getD l w 0)
 
 -- three words joined
 abbrev three : List ℕ → ℕ → ℕ → ℕ → ℕ
@@ -159,14 +205,14 @@ gained-set {ys} m l to a b tw tu tv ex ey =
 
 -- ---- a row's past gains own and past of the row s
 
--- One row: its past reads gain, and then its past writes. The second gain reads no word that the first has changed, whichever row s is.
+-- One row: its past used cells gain, and then its past altered ones. The second gain reads no word that the first has changed, whichever row s is.
 pub taken-over : {l₁ l₂ : List ℕ} (m : ℕ) (l : List ℕ) (r s : ℕ) → r * 16 + 16 ≤ m → s * 16 + 16 ≤ m
     → l₁ ≡ tab m (gain l (r * 16 + 8) (s * 16) (s * 16 + 8)) → l₂ ≡ tab m (gain l₁ (r * 16 + 8 + 4) (s * 16 + 4) (s * 16 + 12))
     → l₂ ≡ tab m (folded-word l (λ k. eqb k r) s)
 taken-over {l₁} {l₂} m l r s hr hs e₁ e₂ =
     e₂ ∙ tab-same m _ _ (λ w q.
-    by-test (λ (t : Bool). cond t (new₂ w) (getD l₁ w 0) ≡ folded-word l (λ k. eqb k r) s w) (within (to + 4) w) (λ i. writes w q (i .0) (i .1))
-    (λ f. first w q ∙ reads w f))
+    by-test (λ (t : Bool). cond t (new₂ w) (getD l₁ w 0) ≡ folded-word l (λ k. eqb k r) s w) (within (to + 4) w) (λ i. altered w q (i .0) (i .1))
+    (λ f. first w q ∙ used w f))
   where
     to : ℕ
     to = r * 16 + 8
@@ -190,16 +236,16 @@ taken-over {l₁} {l₂} m l r s hr hs e₁ e₂ =
     new : (w : ℕ) → to ≤ w → w ≤ to + 7 → gained-word l s w ≡ folded-word l (λ k. eqb k r) s w
     new w h h′ = ap (λ (t : Bool). cond t (gained-word l s w) (getD l w 0)) (sym (test-true (in-past w) (omega arith)))
 
-    writes : (w : ℕ) → w < m → to + 4 ≤ w → w ≤ to + 4 + 3 → new₂ w ≡ folded-word l (λ k. eqb k r) s w
-    writes w q h h′ =
+    altered : (w : ℕ) → w < m → to + 4 ≤ w → w ≤ to + 4 + 3 → new₂ w ≡ folded-word l (λ k. eqb k r) s w
+    altered w q h h′ =
         ap₂ bitOr (kept w q (λ i. omega arith))
         (ap₂ bitOr
         (kept (s * 16 + 4 + (w - (to + 4))) (omega arith) (λ i. omega arith) ∙ ap (λ (k : ℕ). getD l k 0) (omega arith))
         (kept (s * 16 + 12 + (w - (to + 4))) (omega arith) (λ i. omega arith) ∙ ap (λ (k : ℕ). getD l k 0) (omega arith)))
         ∙ new w (omega arith) (omega arith)
 
-    reads : (w : ℕ) → ((to + 4 ≤ w) × (w ≤ to + 4 + 3) → ⊥) → cond (leb to w && leb w (to + 3)) (new₁ w) (getD l w 0) ≡ folded-word l (λ k. eqb k r) s w
-    reads w f =
+    used : (w : ℕ) → ((to + 4 ≤ w) × (w ≤ to + 4 + 3) → ⊥) → cond (leb to w && leb w (to + 3)) (new₁ w) (getD l w 0) ≡ folded-word l (λ k. eqb k r) s w
+    used w f =
         by-test (λ (t : Bool). cond t (new₁ w) (getD l w 0) ≡ folded-word l (λ k. eqb k r) s w) (within to w)
         (λ i. ap₂ (three l w) (omega arith) (omega arith) ∙ new w (omega arith) (omega arith))
         (λ g. ap (λ (t : Bool). cond t (gained-word l s w) (getD l w 0))

@@ -1,11 +1,11 @@
 -- What the contracts of slots and arbiter say: the state that lent lists make, the reply that an answer is, and what a step leaves, by the rule of the crate held.
 -- Assumes nothing.
 use mathlib.Core.Path.{_≡_}
-use mathlib.Core.Bool.{Bool, true, false, cond}
+use mathlib.Core.Bool.{cond}
 use mathlib.Core.List.{List, []}
 use Prim.Native.Nat.{ℕ}
 use lib.Dec.{eqb}
-use Rattle.history.specs.Events.{Kind, read, write}
+use Rattle.history.specs.Events.{Kind, read, write, add}
 use Rattle.history.specs.Replies.{Request, Reply, Want, first-of, tests, job-of}
 use Rattle.held.specs.Held.{Held, facts, moved, answer-to, after}
 use Rattle.late.specs.Late.{Ask}
@@ -14,6 +14,8 @@ use Rattle.slots.specs.declared.JobNumber.{JobNumber}
 use Rattle.slots.specs.declared.Answer.{Answer}
 use Rattle.slots.specs.declared.Answer.the-variants.{Granted, Malformed, NoCell, NotOpen, HasWritten, Full, Spent, Circle}
 use Rattle.slots.specs.declared.Moved.{Moved}
+use Rattle.slots.specs.declared.Deed.{Deed}
+use Rattle.slots.specs.declared.Deed.the-variants.{Read, Write, Add}
 
 -- the state whose arrays are lent
 abbrev pub lent : ℕ → ℕ → List ℕ → List ℕ → List ℕ → Held
@@ -34,9 +36,11 @@ numbered Full = record { code = 5; job = 0 }
 numbered Spent = record { code = 6; job = 0 }
 numbered Circle = record { code = 7; job = 0 }
 
-abbrev pub kind-of : Bool → Kind
-kind-of true = write
-kind-of false = read
+-- the kind of step that a deed is
+abbrev pub kind-of : Deed → Kind
+kind-of Read = read
+kind-of Write = write
+kind-of Add = add
 
 -- what a well-formed request for w leaves: the reply that the tests give, and the state moved by a grant
 unfoldable pub code-for : Held → Want → ℕ → ℕ → ℕ

@@ -1,7 +1,7 @@
 -- Names for what the functions over lent arrays ensure: the rules of masks of slots, the words in which a clash shows, and arrays that are changed.
 -- Each says of lists of numbers what `held` says of a state.
 -- Assumes nothing.
-use mathlib.Core.Bool.{Bool, not, _&&_, cond}
+use mathlib.Core.Bool.{Bool, true, false, not, _&&_, cond}
 use mathlib.Core.List.{List}
 use Prim.Native.Nat.{ℕ, _+_, _-_, _*_, _/_, _%_, _^_}
 use lib.Bits.{bitOr, bitAnd}
@@ -12,9 +12,11 @@ use Rattle.graph.specs.Lists.{only}
 use Rattle.graph.specs.Reach.{reach}
 use Rattle.marks.specs.Marks.{bit, without, tab, upto}
 use Rattle.history.specs.Events.{Kind, write}
-use Rattle.held.specs.Held.{touched}
+use Rattle.held.specs.Held.{touched, marks-word}
 use Rattle.late.specs.Late.{named}
 use Rattle.slots.specs.Lent.{sets-only}
+use Rattle.slots.specs.declared.Deed.{Deed}
+use Rattle.slots.specs.declared.Deed.the-variants.{Read, Write, Add}
 
 -- ---- masks of slots
 
@@ -49,17 +51,28 @@ theirs free leads s = bitAnd (getD leads s 0) (2 ^ 32 - 1 - free)
 
 -- ---- words of the sets
 
--- in which a clash with a step on a cell of place p would show, own and past of row i together: the writes, and for a write the reads too
-abbrev pub clash-word : List ℕ → Bool → ℕ → ℕ → ℕ
-clash-word sets writes p i =
-    cond writes
-    (bitOr (bitOr (getD sets (i * 16 + (4 + p)) 0) (getD sets (i * 16 + (12 + p)) 0)) (bitOr (getD sets (i * 16 + p) 0) (getD sets (i * 16 + (8 + p)) 0)))
-    (bitOr (getD sets (i * 16 + (4 + p)) 0) (getD sets (i * 16 + (12 + p)) 0))
+-- where the first set stands that a deed looks at: the altered cells for one that uses, the used cells for an add; and does it look at the used beside the altered?
+abbrev pub looks-from : Deed → ℕ
+looks-from Read = 4
+looks-from Write = 4
+looks-from Add = 0
+
+abbrev pub looks-twice : Deed → Bool
+looks-twice Read = false
+looks-twice Write = true
+looks-twice Add = false
+
+-- in which a clash would show, own and past of row i together: word f of either half row, and for a deed that looks twice word p
+abbrev pub clash-word : List ℕ → Bool → ℕ → ℕ → ℕ → ℕ
+clash-word sets twice f p i =
+    cond twice
+    (bitOr (bitOr (getD sets (i * 16 + f) 0) (getD sets (i * 16 + (8 + f)) 0)) (bitOr (getD sets (i * 16 + p) 0) (getD sets (i * 16 + (8 + p)) 0)))
+    (bitOr (getD sets (i * 16 + f) 0) (getD sets (i * 16 + (8 + f)) 0))
 
 -- past alone
-abbrev pub past-word : List ℕ → Bool → ℕ → ℕ → ℕ
-past-word sets writes p i =
-    cond writes (bitOr (getD sets (i * 16 + (12 + p)) 0) (getD sets (i * 16 + (8 + p)) 0)) (getD sets (i * 16 + (12 + p)) 0)
+abbrev pub past-word : List ℕ → Bool → ℕ → ℕ → ℕ → ℕ
+past-word sets twice f p i =
+    cond twice (bitOr (getD sets (i * 16 + (8 + f)) 0) (getD sets (i * 16 + (8 + p)) 0)) (getD sets (i * 16 + (8 + f)) 0)
 
 -- word w of a past that gains own and past of s, which stand at the same place of their half rows
 abbrev pub gained-word : List ℕ → ℕ → ℕ → ℕ
@@ -86,19 +99,22 @@ gained-row leads p gain i = cond (p i) (bitOr (getD leads i 0) gain) (getD leads
 abbrev pub gained : List ℕ → (ℕ → Bool) → ℕ → List ℕ
 gained leads p gain = tab 32 (gained-row leads p gain)
 
--- the sets of s are empty; the rows that pass p take over those of s; a set of s, 0 for reads and 4 for writes, gains a cell
+-- the sets of s are empty; the rows that pass p take over those of s; a set of s's own, 0 for the used and 4 for the altered cells, gains a cell; s's own gains it by a step of kind k
 abbrev pub blanked : List ℕ → ℕ → List ℕ
 blanked sets s = tab 512 (λ w. cond (eqb (w / 16) s) 0 (getD sets w 0))
 
 abbrev pub folded : List ℕ → (ℕ → Bool) → ℕ → List ℕ
 folded sets p s = tab 512 (folded-word sets p s)
 
-abbrev pub marked-own : List ℕ → ℕ → ℕ → ℕ → List ℕ
-marked-own sets s place c = tab 512 (λ w. cond (eqb w (s * 16 + (place + c / 64))) (bitOr (getD sets w 0) (2 ^ (c % 64))) (getD sets w 0))
+abbrev pub put-own : List ℕ → ℕ → ℕ → ℕ → List ℕ
+put-own sets s place c = tab 512 (λ w. cond (eqb w (s * 16 + (place + c / 64))) (bitOr (getD sets w 0) (2 ^ (c % 64))) (getD sets w 0))
 
--- the own writes of s gain the cells of a set, word by word
+abbrev pub marked-own : List ℕ → ℕ → Kind → ℕ → List ℕ
+marked-own sets s k c = tab 512 (λ w. cond (marks-word k s c w) (bitOr (getD sets w 0) (2 ^ (c % 64))) (getD sets w 0))
+
+-- the own used and altered cells of s, eight words, gain the cells of a set, word by word
 abbrev pub joined-word : List ℕ → ℕ → List ℕ → ℕ → ℕ
-joined-word sets s ws w = cond (leb (s * 16 + 4) w && leb w (s * 16 + 4 + 3)) (bitOr (getD sets w 0) (getD ws (w - (s * 16 + 4)) 0)) (getD sets w 0)
+joined-word sets s ws w = cond (leb (s * 16) w && leb w (s * 16 + 7)) (bitOr (getD sets w 0) (getD ws (w % 4) 0)) (getD sets w 0)
 
 abbrev pub joined-own : List ℕ → ℕ → List ℕ → List ℕ
 joined-own sets s ws = tab 512 (joined-word sets s ws)

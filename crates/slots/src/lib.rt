@@ -9,12 +9,13 @@ ghost use lib.Count.{trailingZeros};
 ghost use lib.Dec.{leb, eqb};
 ghost use lib.ListN.{getD, take, drop};
 ghost use Rattle.marks.specs.Marks.{bit, mask-of, tab};
+ghost use Rattle.history.specs.Events.{write};
 ghost use Rattle.history.specs.Formats.{request-of};
 ghost use Rattle.history.specs.Replies.{an-open, a-step, an-end, an-abandon, a-publish};
 ghost use Rattle.held.specs.Held.{has-past, ended-at};
 ghost use Rattle.late.specs.Late.{asks, publishes};
 ghost use Rattle.slots.specs.Lent.{lent, sets-only, numbered, kind-of, reading, Does, Steps, Lates};
-ghost use Rattle.slots.specs.Rows.{holds, leads-to, reaches, met, touches, meets-some, theirs, clash-word, past-word, put, struck, gained, blanked, folded, marked-own, joined-own};
+ghost use Rattle.slots.specs.Rows.{holds, leads-to, reaches, met, touches, meets-some, theirs, looks-from, looks-twice, clash-word, past-word, put, struck, gained, blanked, folded, put-own, marked-own, joined-own};
 use cells::Cell;
 use cells::CellSet;
 
@@ -66,6 +67,37 @@ impl Answer {
             Answer::Full => JobNumber(0),
             Answer::Spent => JobNumber(0),
             Answer::Circle => JobNumber(0),
+        }
+    }
+}
+
+// What a step does to its cell: it uses what is there, alters it, or both.
+enum Deed {
+    Read,
+    Write,
+    Add,
+}
+
+impl Deed {
+    // Where the first set stands that the deed looks at, among own as among past: one that uses looks at the altered cells, an add at the used.
+    fn looks_from(self) -> usize
+        ensures { λ r. ⌜ r ≡ looks-from self ⌝ }
+    {
+        match self {
+            Deed::Read => 4,
+            Deed::Write => 4,
+            Deed::Add => 0,
+        }
+    }
+
+    // Does it look at the used cells beside these?
+    fn looks_twice(self) -> bool
+        ensures { λ r. ⌜ r ≡ looks-twice self ⌝ }
+    {
+        match self {
+            Deed::Read => false,
+            Deed::Write => true,
+            Deed::Add => false,
         }
     }
 }
@@ -143,43 +175,44 @@ fn reached(free: u32, leads: &[u32; 32], slot: Slot) -> u32
 
 // ---- clashes
 
-// The word of a row's sets in which a clash with a step on a cell of that place would show, own and past together: the writes, and for a write the
-// reads too.
-fn clashing(sets: &[u64; 512], row: Slot, write: bool, place: usize) -> u64
-    requires { ⌜ (row .0 < 32) × (place < 4) ⌝ }
-    ensures { λ r. ⌜ r ≡ clash-word (now (sets .entry)) write place (row .0) ⌝ }
+// The word of a row's sets in which a clash with a step would show, own and past together: word `first` of each half row, and for a step that looks twice word `place` too.
+fn clashing(sets: &[u64; 512], row: Slot, twice: bool, first: usize, place: usize) -> u64
+    requires { ⌜ (row .0 < 32) × (first < 8) × (place < 4) ⌝ }
+    ensures { λ r. ⌜ r ≡ clash-word (now (sets .entry)) twice first place (row .0) ⌝ }
 {
     let at = (row.0 as usize) * 16;
-    let writes = sets[at + (4 + place)] | sets[at + (12 + place)];
-    if write {
-        return writes | (sets[at + place] | sets[at + (8 + place)]);
+    let shown = sets[at + first] | sets[at + (8 + first)];
+    if twice {
+        return shown | (sets[at + place] | sets[at + (8 + place)]);
     }
-    writes
+    shown
 }
 
 // The same of the past alone.
-fn clashing_past(sets: &[u64; 512], row: Slot, write: bool, place: usize) -> u64
-    requires { ⌜ (row .0 < 32) × (place < 4) ⌝ }
-    ensures { λ r. ⌜ r ≡ past-word (now (sets .entry)) write place (row .0) ⌝ }
+fn clashing_past(sets: &[u64; 512], row: Slot, twice: bool, first: usize, place: usize) -> u64
+    requires { ⌜ (row .0 < 32) × (first < 8) × (place < 4) ⌝ }
+    ensures { λ r. ⌜ r ≡ past-word (now (sets .entry)) twice first place (row .0) ⌝ }
 {
     let at = (row.0 as usize) * 16;
-    if write {
-        return sets[at + (12 + place)] | sets[at + (8 + place)];
+    if twice {
+        return sets[at + (8 + first)] | sets[at + (8 + place)];
     }
-    sets[at + (12 + place)]
+    sets[at + (8 + first)]
 }
 
 // The rows below `to` that clash with a step on the cell, own and past together, from those below `from`. Slot 32 is no row, so that no row is the asking one.
-fn clashing_rows(sets: &[u64; 512], below: u32, from: u32, to: u32, write: bool, cell: Cell) -> u32
-    requires { ⌜ (from ≤ to) × (to ≤ 32) × (below ≡ mask-of from (met (now sets) (kind-of write) (cell .0))) ⌝ }
-    ensures { λ r. ⌜ r ≡ mask-of to (met (now (sets .entry)) (kind-of write) (cell .0)) ⌝ }
+fn clashing_rows(sets: &[u64; 512], below: u32, from: u32, to: u32, deed: Deed, cell: Cell) -> u32
+    requires { ⌜ (from ≤ to) × (to ≤ 32) × (below ≡ mask-of from (met (now sets) (kind-of deed) (cell .0))) ⌝ }
+    ensures { λ r. ⌜ r ≡ mask-of to (met (now (sets .entry)) (kind-of deed) (cell .0)) ⌝ }
 {
     let place = cell.place();
     let mark = cell.mark();
+    let first = deed.looks_from() + place;
+    let twice = deed.looks_twice();
     let mut found = below;
     let mut i = from;
     while i < to {
-        if clashing(sets, Slot(i), write, place) & mark != 0 {
+        if clashing(sets, Slot(i), twice, first, place) & mark != 0 {
             found |= 1u32 << i;
         }
         i += 1;
@@ -188,32 +221,34 @@ fn clashing_rows(sets: &[u64; 512], below: u32, from: u32, to: u32, write: bool,
 }
 
 // Those of the slots that clash so. Slots are taken from the lowest up, so eight rows at a time are looked at, as far as the slots go.
-fn clashing_among(slots: u32, sets: &[u64; 512], write: bool, cell: Cell) -> u32
-    ensures { λ r. ⌜ r ≡ mask-of 32 (λ i. bit slots i && met (now (sets .entry)) (kind-of write) (cell .0) i) ⌝ }
+fn clashing_among(slots: u32, sets: &[u64; 512], deed: Deed, cell: Cell) -> u32
+    ensures { λ r. ⌜ r ≡ mask-of 32 (λ i. bit slots i && met (now (sets .entry)) (kind-of deed) (cell .0) i) ⌝ }
 {
-    let eight = clashing_rows(sets, 0, 0, 8, write, cell);
+    let eight = clashing_rows(sets, 0, 0, 8, deed, cell);
     if slots < 256 {
         return eight & slots;
     }
-    let sixteen = clashing_rows(sets, eight, 8, 16, write, cell);
+    let sixteen = clashing_rows(sets, eight, 8, 16, deed, cell);
     if slots < 65536 {
         return sixteen & slots;
     }
-    let most = clashing_rows(sets, sixteen, 16, 24, write, cell);
+    let most = clashing_rows(sets, sixteen, 16, 24, deed, cell);
     if slots < 16777216 {
         return most & slots;
     }
-    clashing_rows(sets, most, 24, 32, write, cell) & slots
+    clashing_rows(sets, most, 24, 32, deed, cell) & slots
 }
 
 // The open slots that come to lead to the asking slot, which is open, at its step.
-fn touching(free: u32, sets: &[u64; 512], slot: Slot, write: bool, cell: Cell) -> u32
+fn touching(free: u32, sets: &[u64; 512], slot: Slot, deed: Deed, cell: Cell) -> u32
     requires { ⌜ (slot .0 < 32) × (bit free (slot .0) ≡ false) ⌝ }
-    ensures { λ r. ⌜ r ≡ mask-of 32 (touches free (now (sets .entry)) (kind-of write) (slot .0) (cell .0)) ⌝ }
+    ensures { λ r. ⌜ r ≡ mask-of 32 (touches free (now (sets .entry)) (kind-of deed) (slot .0) (cell .0)) ⌝ }
 {
     let others = !free & !(1u32 << slot.0);
-    let mut found = clashing_among(others, sets, write, cell);
-    if clashing_past(sets, slot, write, cell.place()) & cell.mark() != 0 {
+    let mut found = clashing_among(others, sets, deed, cell);
+    let place = cell.place();
+    let first = deed.looks_from() + place;
+    if clashing_past(sets, slot, deed.looks_twice(), first, place) & cell.mark() != 0 {
         found |= 1u32 << slot.0;
     }
     found
@@ -317,27 +352,47 @@ fn store(sets: &mut [u64; 512], at: usize, set: CellSet)
     all[at + 3] = words[3];
 }
 
-// The slot's own reads or writes gain the cell.
-fn mark_own(sets: &mut [u64; 512], slot: Slot, write: bool, cell: Cell)
-    requires { ⌜ slot .0 < 32 ⌝ }
-    ensures { λ _. ⌜ now (sets .exit) ≡ marked-own (now (sets .entry)) (slot .0) (cond write 4 0) (cell .0) ⌝ }
+// A set of the slot's own, 0 for the used and 4 for the altered cells, gains the cell.
+fn put_own(sets: &mut [u64; 512], slot: Slot, set: usize, cell: Cell)
+    requires { ⌜ (slot .0 < 32) × (set ≤ 4) ⌝ }
+    ensures { λ _. ⌜ now (sets .exit) ≡ put-own (now (sets .entry)) (slot .0) set (cell .0) ⌝ }
 {
-    let mut at = (slot.0 as usize) * 16;
-    if write {
-        at += 4;
-    }
-    let own = load(sets, at).with(cell);
-    store(sets, at, own);
+    let all = &mut sets[..];
+    let at = (slot.0 as usize) * 16 + (set + cell.place());
+    all[at] |= cell.mark();
 }
 
-// The slot's own writes gain the cells.
+// Both gain it.
+fn put_both(sets: &mut [u64; 512], slot: Slot, cell: Cell)
+    requires { ⌜ slot .0 < 32 ⌝ }
+    ensures { λ _. ⌜ now (sets .exit) ≡ marked-own (now (sets .entry)) (slot .0) write (cell .0) ⌝ }
+{
+    put_own(sets, slot, 0, cell);
+    put_own(sets, slot, 4, cell);
+}
+
+// The slot's own gains the cell by a deed: the used cells by a read, the altered by an add, both by a write.
+fn mark_own(sets: &mut [u64; 512], slot: Slot, deed: Deed, cell: Cell)
+    requires { ⌜ slot .0 < 32 ⌝ }
+    ensures { λ _. ⌜ now (sets .exit) ≡ marked-own (now (sets .entry)) (slot .0) (kind-of deed) (cell .0) ⌝ }
+{
+    match deed {
+        Deed::Read => put_own(sets, slot, 0, cell),
+        Deed::Write => put_both(sets, slot, cell),
+        Deed::Add => put_own(sets, slot, 4, cell),
+    }
+}
+
+// The slot's own gains the cells by writes of them: the used and the altered.
 fn join_own(sets: &mut [u64; 512], slot: Slot, cells: CellSet)
     requires { ⌜ slot .0 < 32 ⌝ }
     ensures { λ _. ⌜ now (sets .exit) ≡ joined-own (now (sets .entry)) (slot .0) (cells .words) ⌝ }
 {
-    let at = (slot.0 as usize) * 16 + 4;
-    let own = load(sets, at).union(cells);
-    store(sets, at, own);
+    let at = (slot.0 as usize) * 16;
+    let used = load(sets, at).union(cells);
+    store(sets, at, used);
+    let altered = load(sets, at + 4).union(cells);
+    store(sets, at + 4, altered);
 }
 
 // A row's past gains own and past of the slot, another one.
@@ -347,10 +402,10 @@ fn take_over(sets: &mut [u64; 512], row: Slot, slot: Slot)
 {
     let to = (row.0 as usize) * 16 + 8;
     let from = (slot.0 as usize) * 16;
-    let reads = load(sets, to).union(load(sets, from).union(load(sets, from + 8)));
-    store(sets, to, reads);
-    let writes = load(sets, to + 4).union(load(sets, from + 4).union(load(sets, from + 12)));
-    store(sets, to + 4, writes);
+    let used = load(sets, to).union(load(sets, from).union(load(sets, from + 8)));
+    store(sets, to, used);
+    let altered = load(sets, to + 4).union(load(sets, from + 4).union(load(sets, from + 12)));
+    store(sets, to + 4, altered);
 }
 
 // Every slot of the mask, the slot not among them, takes over the slot's sets.
@@ -385,7 +440,7 @@ fn fold_leads(free: u32, leads: &mut [u32; 32], from: u32, slot: Slot)
 
 // ---- who has a past
 
-// Has the row a past, of reads or of writes?
+// Has the row a past, of used or of altered cells?
 fn has_past(sets: &[u64; 512], row: Slot) -> bool
     requires { ⌜ row .0 < 32 ⌝ }
     ensures { λ r. ⌜ r ≡ has-past (sets-only (now (sets .entry))) (row .0) ⌝ }
@@ -460,11 +515,11 @@ fn step_job(
     numbers: &[u32; 32],
     leads: &mut [u32; 32],
     sets: &mut [u64; 512],
-    write: bool,
+    deed: Deed,
     job: JobNumber,
     cell: u32,
 ) -> Moved
-    ensures { λ r. ⌜ Does (lent next free (now (numbers .entry)) (now (leads .entry)) (now (sets .entry))) (a-step (kind-of write)) (job .0) cell r (now (numbers .entry)) (now (leads .exit)) (now (sets .exit)) ⌝ }
+    ensures { λ r. ⌜ Does (lent next free (now (numbers .entry)) (now (leads .entry)) (now (sets .entry))) (a-step (kind-of deed)) (job .0) cell r (now (numbers .entry)) (now (leads .exit)) (now (sets .exit)) ⌝ }
 {
     if 256 <= cell {
         return refused(next, free, Answer::NoCell);
@@ -475,14 +530,14 @@ fn step_job(
     }
     let slot = Slot(at);
     let real = Cell((cell % 256) as u8);
-    let touched = touching(free, sets, slot, write, real);
+    let touched = touching(free, sets, slot, deed, real);
     let seen = reached(free, leads, slot);
     let me = 1u32 << slot.0;
     if (seen & me) | ((seen | me) & touched) != 0 {
         return refused(next, free, Answer::Circle);
     }
     lead_to(leads, touched, slot);
-    mark_own(sets, slot, write, real);
+    mark_own(sets, slot, deed, real);
     Moved {
         next: next,
         free: free,
@@ -569,8 +624,8 @@ fn abandon_job(
         return refused(next, free, Answer::NotOpen);
     }
     let slot = Slot(at);
-    let written = load(sets, (slot.0 as usize) * 16 + 4);
-    if !written.is_empty() {
+    let altered = load(sets, (slot.0 as usize) * 16 + 4);
+    if !altered.is_empty() {
         return refused(next, free, Answer::HasWritten);
     }
     leave(next, free, numbers, leads, sets, slot, job)
@@ -588,7 +643,7 @@ fn publish_job(
 ) -> Moved
     ensures { λ r. ⌜ Does (lent next free (now (numbers .entry)) (now (leads .entry)) (now (sets .entry))) a-publish (job .0) cell r (now (numbers .exit)) (now (leads .exit)) (now (sets .exit)) ⌝ }
 {
-    let written = step_job(next, free, numbers, leads, sets, true, job, cell);
+    let written = step_job(next, free, numbers, leads, sets, Deed::Write, job, cell);
     let answer = written.answer;
     if answer.code() != 0 {
         return written;
@@ -639,11 +694,12 @@ pub fn step_in_place(
     let job = job_in(request);
     match kind {
         1 => open_job(next, free, numbers, leads, sets),
-        2 => step_job(next, free, numbers, leads, sets, false, job, cell),
-        3 => step_job(next, free, numbers, leads, sets, true, job, cell),
+        2 => step_job(next, free, numbers, leads, sets, Deed::Read, job, cell),
+        3 => step_job(next, free, numbers, leads, sets, Deed::Write, job, cell),
         4 => end_job(next, free, numbers, leads, sets, job),
         5 => abandon_job(next, free, numbers, leads, sets, job),
         6 => publish_job(next, free, numbers, leads, sets, job, cell),
+        7 => step_job(next, free, numbers, leads, sets, Deed::Add, job, cell),
         _ => refused(next, free, Answer::Malformed),
     }
 }
@@ -671,9 +727,9 @@ fn read_job(
     }
     let slot = Slot(at);
     let real = Cell((named % 256) as u8);
-    let met = touching(free, sets, slot, false, real);
+    let met = touching(free, sets, slot, Deed::Read, real);
     lead_to(leads, met, slot);
-    mark_own(sets, slot, false, real);
+    mark_own(sets, slot, Deed::Read, real);
     Moved {
         next: next,
         free: free,

@@ -6,46 +6,64 @@ use mathlib.Core.Path.{_≡_, refl, sym, ap, ap₂, _∙_, subst}
 use mathlib.Core.Logic.{_⊎_, inl, inr, ⊎-elim}
 use mathlib.Core.Bool.{Bool, true, false, not, _&&_, _||_, and-false, or-false}
 use mathlib.Core.List.{List, [], _∷_, _++_, List·Memᴰ·not-nil, List·Memᴰ·append-cases, Memᴰ·append-left, Memᴰ·append-right, List·Memᴰ·eq-of-singleton}
-use Prim.Native.Nat.{ℕ, _+_, _-_, _*_, _/_, _≤_, _<_}
+use Prim.Native.Nat.{ℕ, _+_, _*_, _/_, _%_, _≤_, _<_}
 use native.Mathlib.Omega.{arith}
-use lib.Dec.{T, eqb}
+use lib.Dec.{T, leb, ltb, eqb}
 use lib.ListN.{length, getD, replicate, getD-replicate}
-use Rattle.graph.specs.Decide.{Decides, and-test, or-test, not-test, eq-test, lt-test, read-as, same-test, false-is}
+use Rattle.graph.specs.Decide.{Decides, and-test, or-test, not-test, eq-test, le-test, lt-test, read-as, same-test, test-true, test-false, false-is}
 use Rattle.graph.specs.Lists.{_∈_, here, before-nil, before-cons, before-in-left, before-across, before-append}
 use Rattle.marks.specs.WordLaws.{marked-none}
 use Rattle.history.specs.Events.{Deed, clash, History, opened, Step, kept-steps, Precedes}
 use Rattle.history.specs.EventLaws.{precedes-in, no-self, precedes-test}
 use Rattle.tallies.specs.Jobs.{room, row-of, looked, Taken}
 use Rattle.tallies.specs.Marks.{in-row, Put, Struck, Joined, Gained, Preceded}
-use Rattle.tallies.specs.RowLaws.{row-small, row-apart, looked-read, looked-write, looked-opening, looked-ending, looked-test}
+use Rattle.tallies.specs.RowLaws.{row-small, row-apart, looked-step, looked-opening, looked-ending, looked-test}
 use Rattle.tallies.specs.TableLaws.{same-entry}
 use Rattle.tallies.specs.PassLaws.{slot-at, row-at, Pass, Meets, pass-start, pass-all, pass-on}
 
 -- ---- rows gained
 
--- along a test that comes out the same, and by two rows one after the other
-gain-two : (x e a b : Bool) → (x || (e && a)) || (e && b) ≡ x || (e && (a || b))
-gain-two true e a b = refl
-gain-two false true a b = refl
-gain-two false false a b = refl
+-- along a test that comes out the same, and by three rows one after the other
+gain-three : (x e a b c : Bool) → ((x || (e && a)) || (e && b)) || (e && c) ≡ x || (e && (a || (b || c)))
+gain-three true e a b c = refl
+gain-three false true true b c = refl
+gain-three false true false true c = refl
+gain-three false true false false c = refl
+gain-three false false a b c = refl
 
 module _ (k row : ℕ) (seen preds preds′ : List ℕ) where
   by-look : (f : ℕ → Bool) → ((i : ℕ) → looked (λ x. in-row seen x i) row ≡ f i)
       → ((j i : ℕ) → i < 512 → in-row preds′ j i ≡ (in-row preds j i || (eqb j k && f i))) → Gained k row seen preds preds′
   by-look f e g j i q = g j i q ∙ ap (λ (b : Bool). in-row preds j i || (eqb j k && b)) (sym (e i))
 
-  pub gained-read : row < 256 → Joined k (row + 256) seen preds preds′ → Gained k row seen preds preds′
-  gained-read l g = by-look (λ i. in-row seen (row + 256) i) (λ i. looked-read (λ x. in-row seen x i) row l) g
+  -- a row is gained where a test holds, and else nothing
+  gained-if : {A : Type 0} {t : Bool} → Decides t A → (r : ℕ) (p q : List ℕ) → (A × ((o : List ℕ) × Joined k r seen p o × (q ≡ o))) ⊎ ((A → ⊥) × (q ≡ p))
+      → (j i : ℕ) → i < 512 → in-row q j i ≡ (in-row p j i || (eqb j k && (t && in-row seen r i)))
+  gained-if d r p q w j i l =
+      ⊎-elim
+      (λ y. ap (λ (l : List ℕ). in-row l j i) (y .1 .2) ∙ y .1 .1 j i l ∙ ap (λ (b : Bool). in-row p j i || (eqb j k && (b && in-row seen r i))) (sym (test-true d (y .0))))
+      (λ y. ap (λ (l : List ℕ). in-row l j i) (y .1)
+      ∙ sym (ap (λ (b : Bool). in-row p j i || (eqb j k && (b && in-row seen r i))) (test-false d (y .0))
+      ∙ ap (λ (b : Bool). in-row p j i || b) (and-false (eqb j k)) ∙ or-false (in-row p j i)))
+      w
 
-  pub gained-write : (p : List ℕ) → 256 ≤ row → row < 512 → Joined k (row - 256) seen preds p → Joined k row seen p preds′ → Gained k row seen preds preds′
-  gained-write p m l g f =
-      by-look (λ i. in-row seen (row - 256) i || in-row seen row i) (λ i. looked-write (λ x. in-row seen x i) row m l)
-      (λ j i q. f j i q ∙ ap (λ (b : Bool). b || (eqb j k && in-row seen row i)) (g j i q) ∙ gain-two (in-row preds j i) (eqb j k) (in-row seen (row - 256) i) (in-row seen row i))
+  -- a step: the reads of its cell but for a read, the writes, the adds but for an add
+  pub gained-step : (p q : List ℕ) → row < 768 → ((256 ≤ row) × ((o : List ℕ) × Joined k (row % 256) seen preds o × (p ≡ o))) ⊎ ((row < 256) × (p ≡ preds)) → Joined k (row % 256 + 256) seen p q
+      → ((row < 512) × ((o : List ℕ) × Joined k (row % 256 + 512) seen q o × (preds′ ≡ o))) ⊎ ((512 ≤ row) × (preds′ ≡ q)) → Gained k row seen preds preds′
+  gained-step p q l a b c =
+      by-look (λ i. (leb 256 row && in-row seen (row % 256) i) || (in-row seen (row % 256 + 256) i || (ltb row 512 && in-row seen (row % 256 + 512) i)))
+      (λ i. looked-step (λ x. in-row seen x i) row l)
+      (λ j i m. gained-if (lt-test row 512) (row % 256 + 512) q preds′ (⊎-elim inl (λ w. inr ((λ n. let o = w .0 in omega arith), w .1)) c) j i m
+      ∙ ap (λ (b : Bool). b || (eqb j k && (ltb row 512 && in-row seen (row % 256 + 512) i)))
+      (b j i m
+      ∙ ap (λ (b : Bool). b || (eqb j k && in-row seen (row % 256 + 256) i))
+      (gained-if (le-test 256 row) (row % 256) preds p (⊎-elim inl (λ w. inr ((λ n. let o = w .0 in omega arith), w .1)) a) j i m))
+      ∙ gain-three (in-row preds j i) (eqb j k) (leb 256 row && in-row seen (row % 256) i) (in-row seen (row % 256 + 256) i) (ltb row 512 && in-row seen (row % 256 + 512) i))
 
-  pub gained-opening : row ≡ 512 → Joined k 513 seen preds preds′ → Gained k row seen preds preds′
-  gained-opening e g = by-look (λ i. in-row seen 513 i) (λ i. looked-opening (λ x. in-row seen x i) row e) g
+  pub gained-opening : row ≡ 768 → Joined k 769 seen preds preds′ → Gained k row seen preds preds′
+  gained-opening e g = by-look (λ i. in-row seen 769 i) (λ i. looked-opening (λ x. in-row seen x i) row e) g
 
-  pub gained-ending : 512 < row → preds′ ≡ preds → Gained k row seen preds preds′
+  pub gained-ending : 768 < row → preds′ ≡ preds → Gained k row seen preds preds′
   gained-ending l e =
       by-look (λ i. false) (λ i. looked-ending (λ x. in-row seen x i) row l)
       (λ j i q. ap (λ (l : List ℕ). in-row l j i) e ∙ sym (ap (λ (b : Bool). in-row preds j i || b) (and-false (eqb j k)) ∙ or-false (in-row preds j i)))
@@ -76,13 +94,13 @@ pub record Sets (jobs : List ℕ) (s : List Step) (preds seen : List ℕ) : Type
 never : {A : Type 0} {b : Bool} → b ≡ false → (A → ⊥) → Decides b A
 never e f = record { holds = λ t. absurd (false-is e t); shows = λ a. absurd (f a) }
 
-pub sets-start : (jobs preds : List ℕ) → ((x : ℕ) → getD preds x 0 ≡ 0) → Sets jobs [] preds (replicate 4112 0)
+pub sets-start : (jobs preds : List ℕ) → ((x : ℕ) → getD preds x 0 ≡ 0) → Sets jobs [] preds (replicate 6160 0)
 sets-start jobs preds z =
     record {
       ahead = λ j i p q. never (marked-none 64 preds (j * 512 + i) (z ((j * 512 + i) / 64))) (λ r. before-nil (r .1 .in-order));
       done = λ d c i p q.
           let l = row-small d c p in
-          never (marked-none 64 (replicate 4112 0) (row-of d c * 512 + i) (getD-replicate 4112 ((row-of d c * 512 + i) / 64) 0 0 (omega arith))) (λ r. List·Memᴰ·not-nil (r .1 .among));
+          never (marked-none 64 (replicate 6160 0) (row-of d c * 512 + i) (getD-replicate 6160 ((row-of d c * 512 + i) / 64) 0 0 (omega arith))) (λ r. List·Memᴰ·not-nil (r .1 .among));
     }
 
 -- ---- one step more
@@ -211,7 +229,7 @@ abbrev pub Gathered : History → ℕ → List ℕ → ℕ → List ℕ → List
 Gathered h n told i preds seen = Pass h n told i (Here h preds seen)
 
 module _ {h : History} {n : ℕ} {numbers states told : List ℕ} {count : ℕ} (s : Taken h n numbers states told count) where
-  pub gathered-start : {preds : List ℕ} → ((x : ℕ) → getD preds x 0 ≡ 0) → Gathered h n told 0 preds (replicate 4112 0)
+  pub gathered-start : {preds : List ℕ} → ((x : ℕ) → getD preds x 0 ≡ 0) → Gathered h n told 0 preds (replicate 6160 0)
   gathered-start {preds} z = pass-start s (sets-start (opened h) preds z)
 
   -- all are passed

@@ -1,23 +1,23 @@
 -- What the reading of a log leaves: the table of its jobs, and its steps as numbers.
 --
--- The table has a job's number and how it stands, in the order in which the jobs were opened. An open, a read, a write or an end is told as one number, which has
+-- The table has a job's number and how it stands, in the order in which the jobs were opened. An open, a read, a write, an add or an end is told as one number, which has
 -- the place of its job in the table and a row for what was done on which cell; an abandon as 0.
 -- Assumes nothing.
 use mathlib.Core.Path.{_≡_}
 use mathlib.Core.Logic.{_⊎_}
 use mathlib.Core.Bool.{Bool, _&&_, _||_, cond}
 use mathlib.Core.List.{List, [], _∷_, _++_}
-use Prim.Native.Nat.{ℕ, zero, suc, _+_, _-_, _*_, _≤_, _<_}
-use lib.Dec.{ltb, eqb}
+use Prim.Native.Nat.{ℕ, zero, suc, _+_, _*_, _%_, _≤_, _<_}
+use lib.Dec.{leb, ltb, eqb}
 use lib.ListN.{length, getD}
-use Rattle.history.specs.Events.{read, write, Deed, does, opening, ending, Event, opens, steps, ends, abandons, History, has, opened, ended, abandoned, wrote}
+use Rattle.history.specs.Events.{Kind, read, write, add, Deed, does, opening, ending, Event, opens, steps, ends, abandons, History, has, opened, ended, abandoned, wrote}
 use Rattle.history.specs.Replies.{Request, want, event-of}
 use Rattle.history.specs.Turns.{Turns}
 use Rattle.verdicts.specs.Logs.{most-jobs, fault-of}
 
 -- ---- the table of jobs
 
--- how a job stands: 1 open, 2 open and has written, 3 ended, 4 abandoned
+-- how a job stands: 1 open, 2 open and has written or added, 3 ended, 4 abandoned
 unfoldable pub status : History → ℕ → ℕ
 status h j = cond (has (abandoned h) j) 4 (cond (has (ended h) j) 3 (cond (wrote h j) 2 1))
 
@@ -56,21 +56,26 @@ room (does k) = 256
 room opening = 1
 room ending = 1
 
--- the row of a deed on a cell, of 514
+-- the row of a deed on a cell, of 770
 abbrev pub row-of : Deed → ℕ → ℕ
 row-of (does read) c = c
 row-of (does write) c = c + 256
-row-of opening c = c + 512
-row-of ending c = c + 513
+row-of (does add) c = c + 512
+row-of opening c = c + 768
+row-of ending c = c + 769
 
--- what a later step at a row looks at, among what the rows have: the read of a cell at its writes, the write of a cell at its reads and writes, an opening at the
--- ends, an end at nothing. That these are the rows of what it clashes with is `looked-test` of RowLaws
+-- the first of the rows of a kind
+abbrev pub first-row : Kind → ℕ
+first-row k = row-of (does k) 0
+
+-- what a later step at a row looks at, among what the rows have: a write or an add at the reads of its cell; a read, a write or an add at its writes; a read or a write at its adds;
+-- an opening at the ends, an end at nothing. That these are the rows of what it clashes with is `looked-test` of RowLaws
 unfoldable pub looked : (ℕ → Bool) → ℕ → Bool
-looked g row = cond (ltb row 256) (g (row + 256)) (cond (ltb row 512) (g (row - 256) || g row) (eqb row 512 && g 513))
+looked g row = cond (ltb row 768) ((leb 256 row && g (row % 256)) || (g (row % 256 + 256) || (ltb row 512 && g (row % 256 + 512)))) (eqb row 768 && g 769)
 
 -- a step of the job at place i of the table
 abbrev pub packed-step : ℕ → Deed → ℕ → ℕ
-packed-step i d c = i * 514 + row-of d c + 1
+packed-step i d c = i * 770 + row-of d c + 1
 
 -- x tells that job j has done d on cell c
 abbrev pub Packs : List ℕ → Deed → ℕ → ℕ → ℕ → Type 0

@@ -22,15 +22,15 @@ use Rattle.tallies.specs.TableLaws.{status-gone}
 -- ---- what the record at i tells
 
 abbrev pub slot-at : List ℕ → ℕ → ℕ
-slot-at told i = (getD told i 0 - 1) / 514 % 512
+slot-at told i = (getD told i 0 - 1) / 770 % 512
 
 abbrev pub row-at : List ℕ → ℕ → ℕ
-row-at told i = (getD told i 0 - 1) % 514
+row-at told i = (getD told i 0 - 1) % 770
 
 -- a step that is packed is taken apart again
 record Apart (x i : ℕ) (d : Deed) (c : ℕ) : Type 0 where
-  slot : (x - 1) / 514 % 512 ≡ i
-  row : (x - 1) % 514 ≡ row-of d c
+  slot : (x - 1) / 770 % 512 ≡ i
+  row : (x - 1) % 770 ≡ row-of d c
   told : x ≡ 0 → ⊥
 
 apart : (x i : ℕ) (d : Deed) (c : ℕ) → x ≡ packed-step i d c → i < 512 → c < room d → Apart x i d c

@@ -1,7 +1,7 @@
 -- The places of an order, the order that the lister finds, and the highest places that each row has seen.
 --
 -- A place counts from 1, and 0 is that of a job that is not named. Going through the steps of the kept jobs, each row keeps the highest place among the jobs that have
--- read its cell so far, have written it, or have ended: a step whose job stands lower than a job that it conflicts with is the later one of a pair that runs backward.
+-- read its cell so far, have written it, have added to it, or have ended: a step whose job stands lower than a job that it conflicts with is the later one of a pair that runs backward.
 -- Assumes nothing.
 use mathlib.Core.Path.{_≡_}
 use mathlib.Core.Bool.{Bool, true, false, _&&_, cond}

@@ -14,12 +14,12 @@ use lib.ListN.{length, getD, set, length-set, length-append, List·getD-append}
 use lib.Seq.{getD-at, getD-set-same, getD-set-other}
 use Rattle.graph.specs.Decide.{Decides, and-test, or-test, not-test, eq-test, le-test, lt-test, own-test, some-test, every-of, every-test, same-test, answer, test-true, test-false}
 use Rattle.graph.specs.Lists.{_∈_, here}
-use Rattle.history.specs.Events.{read, write, Deed, does, opening, ending, alters-by, Event, opens, steps, ends, abandons, History, ended-by, abandoned-by, has, opened, ended, abandoned, open-now, Step, step-at, step-by, all-steps, wrote}
+use Rattle.history.specs.Events.{Kind, read, write, add, alters, Deed, does, opening, ending, alters-by, Event, opens, steps, ends, abandons, History, ended-by, abandoned-by, has, opened, ended, abandoned, open-now, Step, step-at, step-by, all-steps, wrote}
 use Rattle.history.specs.Replies.{cells, Request, Want, an-open, a-step, an-end, an-abandon, a-publish, nothing, want, event-of}
 use Rattle.history.specs.Turns.{InTurn}
 use Rattle.history.specs.TurnLaws.{Grows, which-in, old-in, new-in, stays, opened-grows, ended-grows, abandoned-grows, all-steps-grows, has-test, open-from, open-opened, open-not-abandoned, orderly, turns-next}
-use Rattle.verdicts.specs.Logs.{most-jobs, ill-formed, out-of-turn, too-many, fault-of}
-use Rattle.tallies.specs.Jobs.{status, Padded, Jobs, Finds, room, packed-step, Packs, Tells, Told, Taken, Takes}
+use Rattle.verdicts.specs.Logs.{most-jobs, ill-formed, out-of-turn, too-many, fault-of, kind-number}
+use Rattle.tallies.specs.Jobs.{status, Padded, Jobs, Finds, room, first-row, packed-step, Packs, Tells, Told, Taken, Takes}
 use Rattle.tallies.specs.PadLaws.{padded-set, padded-more}
 use Rattle.tallies.specs.TableLaws.{member-at, rises, same-entry, found-opened, not-found, found-state, by-status, status-open, status-one}
 
@@ -91,20 +91,23 @@ module _ (h : History) (c j : ℕ) where
   unfolding fault-of want ill-formed out-of-turn too-many
   open-good z f m = none-holds cell-test low-test many-test (λ g. g z) (λ g. g f) m
 
-  step-ill : (b : Bool) → cells ≤ c → fault-of h (asked (cond b 3 2) 0 c j) ≡ 12
+  step-ill : (k : Kind) → cells ≤ c → fault-of h (asked (kind-number k) 0 c j) ≡ 12
   unfolding fault-of want ill-formed out-of-turn too-many
-  step-ill true w = first-holds wide-test shut-test never w
-  step-ill false w = first-holds wide-test shut-test never w
+  step-ill read w = first-holds wide-test shut-test never w
+  step-ill write w = first-holds wide-test shut-test never w
+  step-ill add w = first-holds wide-test shut-test never w
 
-  step-shut : (b : Bool) → (cells ≤ c → ⊥) → (j ∈ open-now h → ⊥) → fault-of h (asked (cond b 3 2) 0 c j) ≡ 13
+  step-shut : (k : Kind) → (cells ≤ c → ⊥) → (j ∈ open-now h → ⊥) → fault-of h (asked (kind-number k) 0 c j) ≡ 13
   unfolding fault-of want ill-formed out-of-turn too-many
-  step-shut true w f = second-holds wide-test shut-test never w f
-  step-shut false w f = second-holds wide-test shut-test never w f
+  step-shut read w f = second-holds wide-test shut-test never w f
+  step-shut write w f = second-holds wide-test shut-test never w f
+  step-shut add w f = second-holds wide-test shut-test never w f
 
-  step-good : (b : Bool) → (cells ≤ c → ⊥) → j ∈ open-now h → fault-of h (asked (cond b 3 2) 0 c j) ≡ 0
+  step-good : (k : Kind) → (cells ≤ c → ⊥) → j ∈ open-now h → fault-of h (asked (kind-number k) 0 c j) ≡ 0
   unfolding fault-of want ill-formed out-of-turn too-many
-  step-good true w m = none-holds wide-test shut-test never w (λ f. f m) (λ n. n)
-  step-good false w m = none-holds wide-test shut-test never w (λ f. f m) (λ n. n)
+  step-good read w m = none-holds wide-test shut-test never w (λ f. f m) (λ n. n)
+  step-good write w m = none-holds wide-test shut-test never w (λ f. f m) (λ n. n)
+  step-good add w m = none-holds wide-test shut-test never w (λ f. f m) (λ n. n)
 
   end-ill : (c ≡ 0 → ⊥) → fault-of h (asked 4 0 c j) ≡ 12
   unfolding fault-of want ill-formed out-of-turn too-many
@@ -152,9 +155,9 @@ byte-ill h k b c j f = of-form h (asked k b c j) (go (want k))
       | nothing ↦ refl
     ]
 
--- a kind that is none of a log's five
-kind-ill : (h : History) (k b c j : ℕ) → (k ≡ 1 → ⊥) → (k ≡ 2 → ⊥) → (k ≡ 3 → ⊥) → (k ≡ 4 → ⊥) → (k ≡ 5 → ⊥) → fault-of h (asked k b c j) ≡ 12
-kind-ill h k b c j n1 n2 n3 n4 n5 = of-form h (asked k b c j) (ap (λ (w : Want). ill-formed w (asked k b c j)) no-kind ∙ ill (eqb k 6))
+-- a kind that is none of a log's six
+kind-ill : (h : History) (k b c j : ℕ) → (k ≡ 1 → ⊥) → (k ≡ 2 → ⊥) → (k ≡ 3 → ⊥) → (k ≡ 4 → ⊥) → (k ≡ 5 → ⊥) → (k ≡ 7 → ⊥) → fault-of h (asked k b c j) ≡ 12
+kind-ill h k b c j n1 n2 n3 n4 n5 n7 = of-form h (asked k b c j) (ap (λ (w : Want). ill-formed w (asked k b c j)) no-kind ∙ ill (eqb k 6))
   where
     -- a publish, or none at all
     rest : Want
@@ -164,7 +167,8 @@ kind-ill h k b c j n1 n2 n3 n4 n5 = of-form h (asked k b c j) (ap (λ (w : Want)
     step n x {y} f e = ap (λ (t : Bool). cond t x y) (test-false (eq-test k n) f) ∙ e
 
     no-kind : want k ≡ rest
-    no-kind = unfold want in step 1 an-open n1 (step 2 (a-step read) n2 (step 3 (a-step write) n3 (step 4 an-end n4 (step 5 an-abandon n5 refl))))
+    no-kind = unfold want in step 1 an-open n1 (step 2 (a-step read) n2 (step 3 (a-step write) n3 (step 4 an-end n4 (step 5 an-abandon n5
+        (ap (λ (t : Bool). cond (eqb k 6) a-publish (cond t (a-step add) nothing)) (test-false (eq-test k 7) n7))))))
 
     ill : (t : Bool) → ill-formed (cond t a-publish nothing) (asked k b c j) ≡ true
     ill true = unfold ill-formed in refl
@@ -175,7 +179,7 @@ kind-ill h k b c j n1 n2 n3 n4 n5 = of-form h (asked k b c j) (ap (λ (w : Want)
 has-same : {l k n : List ℕ} → Grows l k n → (i : ℕ) → (i ∈ k → ⊥) → has n i ≡ has l i
 has-same {l} {k} {n} g i f = same-test (has-test n i) (has-test l i) (λ m. ⊎-elim (λ o. o) (λ o. absurd (f o)) (which-in g m)) (old-in g)
 
--- a write of the job
+-- a write or an add of the job
 abbrev Write : ℕ → Step → Type 0
 Write i s = (s .job ≡ i) × T (alters-by (s .deed))
 
@@ -190,7 +194,7 @@ module _ (h : History) (e : Event) (i : ℕ) where
       (λ r. (r .0, ⊎-elim (λ o. o) (λ o. absurd (f (r .0) o (r .2))) (which-in (all-steps-grows h e) (r .1)), r .2))
       (λ r. (r .0, old-in (all-steps-grows h e) (r .1), r .2))
 
-  -- a job that the event does not end, abandon or write for stands as before
+  -- a job that the event does not end, abandon, write or add for stands as before
   status-same : (i ∈ abandoned-by e → ⊥) → (i ∈ ended-by e → ⊥) → ((s : Step) → s ∈ step-by (length h) e → Write i s → ⊥) → status (h ++ e ∷ []) i ≡ status h i
   unfolding status
   status-same fa fe fw =
@@ -198,7 +202,7 @@ module _ (h : History) (e : Event) (i : ℕ) where
       ∙ ap (λ (b : Bool). cond (has (abandoned h) i) 4 (cond b 3 (cond (wrote (h ++ e ∷ []) i) 2 1))) (has-same (ended-grows h e) i fe)
       ∙ ap (λ (b : Bool). cond (has (abandoned h) i) 4 (cond (has (ended h) i) 3 (cond b 2 1))) (wrote-same fw)
 
--- a step that alters nothing is no write
+-- a step that alters nothing is none
 unaltered : {s b : Step} → s ∈ b ∷ [] → (T (alters-by (b .deed)) → ⊥) → T (alters-by (s .deed)) → ⊥
 unaltered m f t = f (subst (λ (x : Step). T (alters-by (x .deed))) (List·Memᴰ·eq-of-singleton m) t)
 
@@ -354,14 +358,14 @@ jobs-opens {h} {numbers} {states} {count} jobs j turn few ln ls =
 -- ---- how the job of an event stands after it
 
 module _ (h : History) (j : ℕ) (m : j ∈ open-now h) where
-  status-writes : (c : ℕ) → status (h ++ steps write j c ∷ []) j ≡ 2
-  status-writes c =
-      let e = steps write j c in
+  status-alters : (k : Kind) → T (alters k) → (c : ℕ) → status (h ++ steps k j c ∷ []) j ≡ 2
+  status-alters k a c =
+      let e = steps k j c in
       by-status (h ++ e ∷ []) j (λ n. n ≡ 2)
       (λ a. absurd (open-not-abandoned h m (⊎-elim (λ x. x) (λ x. absurd (List·Memᴰ·not-nil x)) (which-in (abandoned-grows h e) a))))
       (λ na d. absurd (open-from h m .1 (⊎-elim (λ x. x) (λ x. absurd (List·Memᴰ·not-nil x)) (which-in (ended-grows h e) d))))
       (λ na nd w. refl)
-      (λ na nd nw. absurd (nw (wrote-test (h ++ e ∷ []) j .shows (step-at (length h) (does write) j c, new-in (all-steps-grows h e) here, (refl, tt)))))
+      (λ na nd nw. absurd (nw (wrote-test (h ++ e ∷ []) j .shows (step-at (length h) (does k) j c, new-in (all-steps-grows h e) here, (refl, a)))))
 
   status-ends : status (h ++ ends j ∷ []) j ≡ 3
   status-ends =
@@ -377,9 +381,9 @@ module _ (h : History) (j : ℕ) (m : j ∈ open-now h) where
       by-status (h ++ abandons j ∷ []) j (λ n. n ≡ 4) (λ a. refl) (λ na d. absurd (na g)) (λ na nd w. absurd (na g)) (λ na nd nw. absurd (na g))
 
 module _ (h : History) (j i : ℕ) where
-  others-writes : (c : ℕ) → (i ≡ j → ⊥) → status (h ++ steps write j c ∷ []) i ≡ status h i
-  others-writes c f =
-      status-same h (steps write j c) i (λ m. List·Memᴰ·not-nil m) (λ m. List·Memᴰ·not-nil m)
+  others-steps : (k : Kind) (c : ℕ) → (i ≡ j → ⊥) → status (h ++ steps k j c ∷ []) i ≡ status h i
+  others-steps k c f =
+      status-same h (steps k j c) i (λ m. List·Memᴰ·not-nil m) (λ m. List·Memᴰ·not-nil m)
       (λ s m w. f (sym (w .0) ∙ ap (λ (x : Step). x .job) (List·Memᴰ·eq-of-singleton m)))
 
   others-reads : (c : ℕ) → status (h ++ steps read j c ∷ []) i ≡ status h i
@@ -446,14 +450,14 @@ module _ {h : History} {n : ℕ} {numbers states told : List ℕ} {count : ℕ} 
   pub takes-byte : (k b c j : ℕ) → (b ≡ 0 → ⊥) → Takes h n (asked k b c j) 12 numbers states told count
   takes-byte k b c j f = refused 11 (byte-ill h k b c j f)
 
-  pub takes-kind : (k b c j : ℕ) → (k ≡ 1 → ⊥) → (k ≡ 2 → ⊥) → (k ≡ 3 → ⊥) → (k ≡ 4 → ⊥) → (k ≡ 5 → ⊥) → Takes h n (asked k b c j) 12 numbers states told count
-  takes-kind k b c j n1 n2 n3 n4 n5 = refused 11 (kind-ill h k b c j n1 n2 n3 n4 n5)
+  pub takes-kind : (k b c j : ℕ) → (k ≡ 1 → ⊥) → (k ≡ 2 → ⊥) → (k ≡ 3 → ⊥) → (k ≡ 4 → ⊥) → (k ≡ 5 → ⊥) → (k ≡ 7 → ⊥) → Takes h n (asked k b c j) 12 numbers states told count
+  takes-kind k b c j n1 n2 n3 n4 n5 n7 = refused 11 (kind-ill h k b c j n1 n2 n3 n4 n5 n7)
 
   pub takes-open-ill : (c j : ℕ) → (c ≡ 0 → ⊥) → Takes h n (asked 1 0 c j) 12 numbers states told count
   takes-open-ill c j f = refused 11 (open-ill h c j f)
 
-  pub takes-step-ill : (b : Bool) (c j : ℕ) → cells ≤ c → Takes h n (asked (cond b 3 2) 0 c j) 12 numbers states told count
-  takes-step-ill b c j f = refused 11 (step-ill h c j b f)
+  pub takes-step-ill : (k : Kind) (c j : ℕ) → cells ≤ c → Takes h n (asked (kind-number k) 0 c j) 12 numbers states told count
+  takes-step-ill k c j f = refused 11 (step-ill h c j k f)
 
   pub takes-end-ill : (c j : ℕ) → (c ≡ 0 → ⊥) → Takes h n (asked 4 0 c j) 12 numbers states told count
   takes-end-ill c j f = refused 11 (end-ill h c j f)
@@ -470,7 +474,7 @@ module _ {h : History} {n : ℕ} {numbers states told : List ℕ} {count : ℕ} 
   takes-open-many {c} {j} z f l = refused 13 (open-many h c j z (above (t .jobs) j f) (let m = t .jobs .many in omega arith))
 
   pub takes-open : {c j x : ℕ} → c ≡ 0 → (count ≡ 0) ⊎ (getD numbers (count - 1) 0 < j) → count < 512 → length numbers ≡ 512 → length states ≡ 512 → n < length told
-      → x ≡ count * 514 + 513 → Takes h n (asked 1 0 c j) 0 (set numbers count j) (set states count 1) (set told n x) (count + 1)
+      → x ≡ count * 770 + 769 → Takes h n (asked 1 0 c j) 0 (set numbers count j) (set states count 1) (set told n x) (count + 1)
   unfolding want event-of
   takes-open {c} {j} {x} z f l ln ls w e =
       let a = above (t .jobs) j f in
@@ -482,44 +486,49 @@ module _ {h : History} {n : ℕ} {numbers states told : List ℕ} {count : ℕ} 
 
   module _ {j i : ℕ} (f : Finds count numbers j i) where
     -- a step
-    pub takes-step-unknown : (b : Bool) {c : ℕ} → c < cells → i ≡ count → Takes h n (asked (cond b 3 2) 0 c j) 13 numbers states told count
-    takes-step-unknown b {c} l e = refused 12 (step-shut h c j b (λ q. omega arith) (unknown (t .jobs) f e))
+    pub takes-step-unknown : (k : Kind) {c : ℕ} → c < cells → i ≡ count → Takes h n (asked (kind-number k) 0 c j) 13 numbers states told count
+    takes-step-unknown k {c} l e = refused 12 (step-shut h c j k (λ q. omega arith) (unknown (t .jobs) f e))
 
-    pub takes-step-shut : (b : Bool) {c : ℕ} → c < cells → (i ≡ count → ⊥) → 2 < getD states i 0 → Takes h n (asked (cond b 3 2) 0 c j) 13 numbers states told count
-    takes-step-shut b {c} l g s = refused 12 (step-shut h c j b (λ q. omega arith) (shut (t .jobs) f g s))
+    pub takes-step-shut : (k : Kind) {c : ℕ} → c < cells → (i ≡ count → ⊥) → 2 < getD states i 0 → Takes h n (asked (kind-number k) 0 c j) 13 numbers states told count
+    takes-step-shut k {c} l g s = refused 12 (step-shut h c j k (λ q. omega arith) (shut (t .jobs) f g s))
 
-    takes-read : {c x : ℕ} → c < cells → (i ≡ count → ⊥) → getD states i 0 ≤ 2 → n < length told → x ≡ i * 514 + c + 1
-        → Takes h n (asked 2 0 c j) 0 numbers states (set told n x) count
-    unfolding want event-of
-    takes-read {c} {x} l g s w e =
-        let m = is-open (t .jobs) f g s in
-        let r = place (t .jobs) f g in
-        record {
-          fault = sym (step-good h c j false (λ q. omega arith) m);
-          next = λ z. taken-told t (steps read j c) (does read) j c i x (jobs-same (t .jobs) (steps read j c) (m, l) (stays (opened-grows h (steps read j c))) (λ p. others-reads h j p c))
-              (λ v p. p) (r .0) (r .1) l w e;
-        }
+    module _ {c : ℕ} (l : c < cells) (g : i ≡ count → ⊥) (s : getD states i 0 ≤ 2) where
+      -- a job that has written or added stands so
+      after-alters : (k : Kind) → T (alters k) → count ≤ length states → Jobs (h ++ steps k j c ∷ []) numbers (set states i 2) count
+      after-alters k a ls =
+          let m = is-open (t .jobs) f g s in
+          let r = place (t .jobs) f g in
+          jobs-set (t .jobs) (steps k j c) (m, l) (stays (opened-grows h (steps k j c))) i j 2 (r .0) (r .1) ls (status-alters h j m k a c) (λ p ne. others-steps h j p k c ne)
 
-    takes-write : {c x : ℕ} → c < cells → (i ≡ count → ⊥) → getD states i 0 ≤ 2 → n < length told → x ≡ i * 514 + c + 1 + 256 → count ≤ length states
-        → Takes h n (asked 3 0 c j) 0 numbers (set states i 2) (set told n x) count
-    unfolding want event-of
-    takes-write {c} {x} l g s w e ls =
-        let m = is-open (t .jobs) f g s in
-        let r = place (t .jobs) f g in
-        record {
-          fault = sym (step-good h c j true (λ q. omega arith) m);
-          next = λ z. taken-told t (steps write j c) (does write) j c i x
-              (jobs-set (t .jobs) (steps write j c) (m, l) (stays (opened-grows h (steps write j c))) i j 2 (r .0) (r .1) ls (status-writes h j m c) (λ p ne. others-writes h j p c ne))
-              (λ v p. p) (r .0) (r .1) l w (omega arith);
-        }
+      module _ {x : ℕ} (w : n < length told) where
+        -- the step is told
+        as-told : (k : Kind) {states₂ : List ℕ} → x ≡ packed-step i (does k) c → Jobs (h ++ steps k j c ∷ []) numbers states₂ count → Taken (h ++ steps k j c ∷ []) (suc n) numbers states₂ (set told n x) count
+        as-told k e jobs = let r = place (t .jobs) f g in taken-told t (steps k j c) (does k) j c i x jobs (λ v p. p) (r .0) (r .1) l w e
 
-    -- either of the two, as the code joins them
-    pub takes-step : (b : Bool) {c x : ℕ} {states₂ : List ℕ} → c < cells → (i ≡ count → ⊥) → getD states i 0 ≤ 2 → n < length told → count ≤ length states
-        → ((b ≡ true) × (states₂ ≡ set states i 2) × (x ≡ i * 514 + c + 1 + 256)) ⊎ ((b ≡ false) × (states₂ ≡ states) × (x ≡ i * 514 + c + 1))
-        → Takes h n (asked (cond b 3 2) 0 c j) 0 numbers states₂ (set told n x) count
-    takes-step b {c} {x} l g s w ls =
-        let P : Bool → List ℕ → Type 0 = λ b states₂. Takes h n (asked (cond b 3 2) 0 c j) 0 numbers states₂ (set told n x) count in
-        ⊎-elim (λ r. subst₂ P (sym (r .0)) (sym (r .1)) (takes-write l g s w (r .2) ls)) (λ r. subst₂ P (sym (r .0)) (sym (r .1)) (takes-read l g s w (r .2)))
+        takes-read : x ≡ packed-step i (does read) c → Takes h n (asked 2 0 c j) 0 numbers states (set told n x) count
+        unfolding want event-of
+        takes-read e =
+            let m = is-open (t .jobs) f g s in
+            record {
+              fault = sym (step-good h c j read (λ q. omega arith) m);
+              next = λ z. as-told read e (jobs-same (t .jobs) (steps read j c) (m, l) (stays (opened-grows h (steps read j c))) (λ p. others-reads h j p c));
+            }
+
+        takes-alters : (k : Kind) → T (alters k) → x ≡ packed-step i (does k) c → count ≤ length states → Takes h n (asked (kind-number k) 0 c j) 0 numbers (set states i 2) (set told n x) count
+        unfolding want event-of
+        takes-alters read a e ls = absurd a
+        takes-alters write a e ls = record { fault = sym (step-good h c j write (λ q. omega arith) (is-open (t .jobs) f g s)); next = λ z. as-told write e (after-alters write tt ls) }
+        takes-alters add a e ls = record { fault = sym (step-good h c j add (λ q. omega arith) (is-open (t .jobs) f g s)); next = λ z. as-told add e (after-alters add tt ls) }
+
+        -- any of the three, as the code joins them: the first of the rows of its kind is 0, or its job has altered a cell
+        pub takes-step : (k : Kind) {row : ℕ} {states₂ : List ℕ} → row ≡ first-row k → count ≤ length states → x ≡ i * 770 + row + c + 1
+            → ((row ≡ 0 → ⊥) × (states₂ ≡ set states i 2)) ⊎ ((row ≡ 0) × (states₂ ≡ states)) → Takes h n (asked (kind-number k) 0 c j) 0 numbers states₂ (set told n x) count
+        takes-step read o ls e (inl r) = absurd (r .0 o)
+        takes-step read o ls e (inr r) = subst (λ (s : List ℕ). Takes h n (asked 2 0 c j) 0 numbers s (set told n x) count) (sym (r .1)) (takes-read (omega arith))
+        takes-step write o ls e (inl r) = subst (λ (s : List ℕ). Takes h n (asked 3 0 c j) 0 numbers s (set told n x) count) (sym (r .1)) (takes-alters write tt (omega arith) ls)
+        takes-step write o ls e (inr r) = absurd (let z = r .0 in omega arith)
+        takes-step add o ls e (inl r) = subst (λ (s : List ℕ). Takes h n (asked 7 0 c j) 0 numbers s (set told n x) count) (sym (r .1)) (takes-alters add tt (omega arith) ls)
+        takes-step add o ls e (inr r) = absurd (let z = r .0 in omega arith)
 
     -- an end
     pub takes-end-unknown : {c : ℕ} → c ≡ 0 → i ≡ count → Takes h n (asked 4 0 c j) 13 numbers states told count
@@ -528,7 +537,7 @@ module _ {h : History} {n : ℕ} {numbers states told : List ℕ} {count : ℕ} 
     pub takes-end-shut : {c : ℕ} → c ≡ 0 → (i ≡ count → ⊥) → 2 < getD states i 0 → Takes h n (asked 4 0 c j) 13 numbers states told count
     takes-end-shut {c} z g s = refused 12 (end-shut h c j z (shut (t .jobs) f g s))
 
-    pub takes-end : {c x : ℕ} → c ≡ 0 → (i ≡ count → ⊥) → getD states i 0 ≤ 2 → n < length told → x ≡ i * 514 + 514 → count ≤ length states
+    pub takes-end : {c x : ℕ} → c ≡ 0 → (i ≡ count → ⊥) → getD states i 0 ≤ 2 → n < length told → x ≡ i * 770 + 770 → count ≤ length states
         → Takes h n (asked 4 0 c j) 0 numbers (set states i 3) (set told n x) count
     unfolding want event-of
     takes-end {c} {x} z g s w e ls =

@@ -148,11 +148,11 @@ highest-other order d c a s f =
     ap (λ (b : Bool). cond b (max (place-in order (a .job)) (highest order d c s)) (highest order d c s)) (test-false (and-test (eq-test (a .cell) c) (deed-test (a .deed) d)) f)
 
 -- nothing is seen yet
-tallied-start : (order : List ℕ) → Tallied order [] (replicate 514 0)
-tallied-start order d c q = getD-replicate 514 (row-of d c) 0 0 (row-small d c q)
+tallied-start : (order : List ℕ) → Tallied order [] (replicate 770 0)
+tallied-start order d c q = getD-replicate 770 (row-of d c) 0 0 (row-small d c q)
 
 -- the step's row takes its place in
-tallied-next : (order : List ℕ) (s : List Step) (seen : List ℕ) (b : Step) → Tallied order s seen → b .cell < room (b .deed) → length seen ≡ 514
+tallied-next : (order : List ℕ) (s : List Step) (seen : List ℕ) (b : Step) → Tallied order s seen → b .cell < room (b .deed) → length seen ≡ 770
     → Tallied order (b ∷ s) (set seen (row-of (b .deed) (b .cell)) (max (place-in order (b .job)) (getD seen (row-of (b .deed) (b .cell)) 0)))
 tallied-next order s seen b t real long d c q =
     ⊎-elim
@@ -207,7 +207,7 @@ module _ {h : History} {n : ℕ} {numbers states told placed order : List ℕ} {
   order-names =
       ⊎-elim (λ f. f) (λ f. absurd (false-is (s .whole) (missing-test (kept h) order .shows f))) (answer (every-test (λ j. has-test order j) (kept h)))
 
-  pub passed-start : Passed h n told order 0 (replicate 514 0)
+  pub passed-start : Passed h n told order 0 (replicate 770 0)
   passed-start = pass-start (s .taken) (record { earlier = []; same = refl; tallied = tallied-start order; named = λ a m. absurd (List·Memᴰ·not-nil m) })
 
   -- all are passed
@@ -239,7 +239,7 @@ module _ {h : History} {n : ℕ} {numbers states told placed order : List ℕ} {
     turned-here e = left-by true e ∙ ap some (m .at) ∙ sym (ap (λ (x : Bool). cond x (some i) Option.none) (test-true (lt-test i n) (m .inside)))
 
     -- none does, and the tallies take the step in
-    pub passed-on : stands-low seen (row-at told i) (place-at placed told i) ≡ false → length seen ≡ 514
+    pub passed-on : stands-low seen (row-at told i) (place-at placed told i) ≡ false → length seen ≡ 770
         → Passed h n told order (i + 1) (set seen (row-at told i) (max (place-at placed told i) (getD seen (row-at told i) 0)))
     passed-on e long =
         pass-on m (record {

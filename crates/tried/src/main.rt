@@ -109,6 +109,8 @@ fn kind_of(line: &[u8], at: usize) -> Found {
         0x6162616e646f6e => Found { value: 5, end: end },
         // publish
         0x7075626c697368 => Found { value: 6, end: end },
+        // add
+        0x616464 => Found { value: 7, end: end },
         _ => find(line, at, false, 255),
     }
 }

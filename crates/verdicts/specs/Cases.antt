@@ -1,6 +1,6 @@
 -- Tried logs. What the checker says of a log and a list stands in one table under one statement (`check-cases`); what the lister says of a log, and
--- leaves in the list lent to it, in another (`list-cases`). Both are computed from the definitions. So is P1's log, byte for byte (`p1-bytes`), and so are the log
--- of a case with publishes (`published-log`) and the two requests that the rules write as bytes (`two-read`, `two-written`).
+-- leaves in the list lent to it, in another (`list-cases`). Both are computed from the definitions. So is P1's log, byte for byte (`p1-bytes`), and so are the logs
+-- of a case with publishes (`published-log`) and of one with adds (`adds-log`), and the two requests that the rules write as bytes (`two-read`, `two-written`).
 --
 -- A row has the log, the list handed over, and after `gets` the code and the place expected; after `leaving`, what the list then holds. A log is
 -- what a P case leaves, or is put down record by record, or as bytes. Places count from 0. The limits on a log's bytes and on its jobs are too
@@ -18,12 +18,12 @@ use Rattle.graph.specs.Decide.{Decides, or-test, not-test, eq-test, le-test, lt
 use Rattle.graph.specs.Lists.{_∈_}
 use Rattle.history.specs.Events.{History, opened}
 use Rattle.history.specs.Replies.{Request, history-of}
-use Rattle.history.specs.Cases.{reads, writes, end, abandon, Case, requests-of, computed, p1, p3, p6, p7, p8, published, rows}
+use Rattle.history.specs.Cases.{reads, writes, adds, end, abandon, Case, requests-of, computed, p1, p3, p6, p7, p8, published, adds-alone, rows}
 use Rattle.history.specs.Formats.{records, bytes-of}
 use Rattle.verdicts.specs.Logs.{ill-formed, out-of-turn, too-many, fault-of, faulty, read-from, read-log, log-of}
 use Rattle.verdicts.specs.Verdicts.{Verdict, verdict, missing, backward, judged, check, Listed, listed, list-order}
 
--- ---- records, short; `reads`, `writes`, `end` and `abandon` are those of the P cases
+-- ---- records, short; `reads`, `writes`, `adds`, `end` and `abandon` are those of the P cases
 
 abbrev pub opens : ℕ → Request
 opens j = record { kind = 1; byte1 = 0; cell = 0; job = j }
@@ -71,6 +71,11 @@ p1-bytes = refl
 pub published-log : log-after published ≡ log (opens 1 ∷ opens 2 ∷ reads 1 5 ∷ writes 2 5 ∷ end 2 ∷ opens 3 ∷ reads 3 6 ∷ writes 1 7 ∷ end 1 ∷ [])
 unfolding computed
 published-log = refl
+
+-- a granted add leaves a record of kind 7, with its cell and its job
+pub adds-log : log-after adds-alone ≡ log (opens 1 ∷ opens 2 ∷ adds 1 5 ∷ adds 2 5 ∷ adds 2 6 ∷ adds 1 6 ∷ [])
+unfolding computed
+adds-log = refl
 
 -- ---- the requests of the rules, R27
 
@@ -202,21 +207,23 @@ length-rows-hold c = rows checked (λ c. c .expected) (refl, (refl, (refl, (refl
 -- 12, the form of a record
 abbrev pub form-rows : List CheckCase
 form-rows =
-    -- kinds 0, 7 and 255, and that of a publish, which stands in a log as a write and an end
+    -- kinds 0, 8 and 255, and that of a publish, which stands in a log as a write and an end
     log (opens 1 ∷ raw 0 0 0 1 ∷ []) with 1 ∷ [] gets 12 at 1
-    ∷ log (opens 1 ∷ raw 7 0 0 1 ∷ []) with 1 ∷ [] gets 12 at 1
+    ∷ log (opens 1 ∷ raw 8 0 0 1 ∷ []) with 1 ∷ [] gets 12 at 1
     ∷ log (opens 1 ∷ raw 255 0 0 1 ∷ []) with 1 ∷ [] gets 12 at 1
     ∷ log (opens 1 ∷ raw 6 0 5 1 ∷ []) with 1 ∷ [] gets 12 at 1
-    -- a 1 in byte 1, for each of the five kinds
+    -- a 1 in byte 1, for each of the six kinds
     ∷ log (raw 1 1 0 1 ∷ []) with 1 ∷ [] gets 12 at 0
     ∷ log (opens 1 ∷ raw 2 1 5 1 ∷ []) with 1 ∷ [] gets 12 at 1
     ∷ log (opens 1 ∷ raw 3 1 5 1 ∷ []) with 1 ∷ [] gets 12 at 1
     ∷ log (opens 1 ∷ raw 4 1 0 1 ∷ []) with 1 ∷ [] gets 12 at 1
     ∷ log (opens 1 ∷ raw 5 1 0 1 ∷ []) with [] gets 12 at 1
+    ∷ log (opens 1 ∷ raw 7 1 5 1 ∷ []) with 1 ∷ [] gets 12 at 1
     -- cell 255 is the last
     ∷ log (opens 1 ∷ reads 1 255 ∷ writes 1 255 ∷ []) with 1 ∷ [] gets 0 at 1
     ∷ log (opens 1 ∷ reads 1 256 ∷ []) with 1 ∷ [] gets 12 at 1
     ∷ log (opens 1 ∷ reads 1 255 ∷ writes 1 256 ∷ []) with 1 ∷ [] gets 12 at 2
+    ∷ log (opens 1 ∷ adds 1 255 ∷ adds 1 256 ∷ []) with 1 ∷ [] gets 12 at 2
     -- an open, an end, an abandon with a cell
     ∷ log (raw 1 0 1 1 ∷ []) with 1 ∷ [] gets 12 at 0
     ∷ log (raw 1 0 256 1 ∷ []) with 1 ∷ [] gets 12 at 0
@@ -226,7 +233,7 @@ form-rows =
 
 form-rows-hold : AsExpected form-rows
 unfolding checked
-form-rows-hold c = rows checked (λ c. c .expected) (refl, (refl, (refl, (refl, (refl, (refl, (refl, (refl, (refl, (refl, (refl, (refl, (refl, (refl, (refl, (refl, tt))))))))))))))))
+form-rows-hold c = rows checked (λ c. c .expected) (refl, (refl, (refl, (refl, (refl, (refl, (refl, (refl, (refl, (refl, (refl, (refl, (refl, (refl, (refl, (refl, (refl, (refl, tt))))))))))))))))))
 
 -- 13, the turn of a record
 abbrev pub turn-rows : List CheckCase
@@ -239,17 +246,19 @@ turn-rows =
     ∷ log (opens 1 ∷ reads 2 5 ∷ []) with 1 ∷ [] gets 13 at 1
     ∷ log (reads 1 5 ∷ opens 1 ∷ []) with 1 ∷ [] gets 13 at 0
     ∷ log (opens 1 ∷ end 1 ∷ writes 1 5 ∷ []) with 1 ∷ [] gets 13 at 2
+    ∷ log (opens 1 ∷ end 1 ∷ adds 1 5 ∷ []) with 1 ∷ [] gets 13 at 2
     ∷ log (opens 1 ∷ end 1 ∷ end 1 ∷ []) with 1 ∷ [] gets 13 at 2
     ∷ log (opens 1 ∷ end 1 ∷ abandon 1 ∷ []) with [] gets 13 at 2
     ∷ log (opens 1 ∷ abandon 1 ∷ reads 1 5 ∷ []) with [] gets 13 at 2
-    -- the abandon of a job that has written; of one that has only read, while another has written
+    -- the abandon of a job that has written, of one that has added; of one that has only read, while another has written
     ∷ log (opens 1 ∷ writes 1 5 ∷ abandon 1 ∷ []) with [] gets 13 at 2
+    ∷ log (opens 1 ∷ adds 1 5 ∷ abandon 1 ∷ []) with [] gets 13 at 2
     ∷ log (opens 1 ∷ opens 2 ∷ reads 1 5 ∷ writes 2 6 ∷ abandon 1 ∷ []) with 2 ∷ [] gets 0 at 1
     ∷ []
 
 turn-rows-hold : AsExpected turn-rows
 unfolding checked
-turn-rows-hold c = rows checked (λ c. c .expected) (refl, (refl, (refl, (refl, (refl, (refl, (refl, (refl, (refl, (refl, (refl, tt)))))))))))
+turn-rows-hold c = rows checked (λ c. c .expected) (refl, (refl, (refl, (refl, (refl, (refl, (refl, (refl, (refl, (refl, (refl, (refl, (refl, tt)))))))))))))
 
 -- which fault of a log is reported
 abbrev pub fault-rows : List CheckCase
@@ -332,6 +341,27 @@ pair-rows-hold : AsExpected pair-rows
 unfolding checked
 pair-rows-hold c = rows checked (λ c. c .expected) (refl, (refl, (refl, (refl, (refl, (refl, (refl, (refl, (refl, (refl, (refl, (refl, (refl, (refl, (refl, (refl, (refl, (refl, (refl, (refl, (refl, (refl, (refl, (refl, (refl, (refl, (refl, tt)))))))))))))))))))))))))))
 
+-- adds
+abbrev pub add-rows : List CheckCase
+add-rows =
+    -- two jobs' adds, the one first to the one cell and the other to the other: either order
+    log-after adds-alone with 1 ∷ 2 ∷ [] gets 0 at 2
+    ∷ log-after adds-alone with 2 ∷ 1 ∷ [] gets 0 at 2
+    -- an add with another job's read and with another job's write, either of them first; not on two cells
+    ∷ log (opens 1 ∷ opens 2 ∷ adds 1 5 ∷ reads 2 5 ∷ []) with 2 ∷ 1 ∷ [] gets 16 at 3
+    ∷ log (opens 1 ∷ opens 2 ∷ reads 1 5 ∷ adds 2 5 ∷ []) with 2 ∷ 1 ∷ [] gets 16 at 3
+    ∷ log (opens 1 ∷ opens 2 ∷ adds 1 5 ∷ writes 2 5 ∷ []) with 2 ∷ 1 ∷ [] gets 16 at 3
+    ∷ log (opens 1 ∷ opens 2 ∷ writes 1 5 ∷ adds 2 5 ∷ []) with 2 ∷ 1 ∷ [] gets 16 at 3
+    ∷ log (opens 1 ∷ opens 2 ∷ adds 1 5 ∷ reads 2 6 ∷ []) with 2 ∷ 1 ∷ [] gets 0 at 2
+    -- a read after the adds of two jobs comes after both, whichever of them is first
+    ∷ log (opens 1 ∷ opens 2 ∷ opens 3 ∷ adds 1 5 ∷ adds 2 5 ∷ reads 3 5 ∷ []) with 2 ∷ 1 ∷ 3 ∷ [] gets 0 at 3
+    ∷ log (opens 1 ∷ opens 2 ∷ opens 3 ∷ adds 1 5 ∷ adds 2 5 ∷ reads 3 5 ∷ []) with 1 ∷ 3 ∷ 2 ∷ [] gets 16 at 5
+    ∷ []
+
+add-rows-hold : AsExpected add-rows
+unfolding checked
+add-rows-hold c = rows checked (λ c. c .expected) (refl, (refl, (refl, (refl, (refl, (refl, (refl, (refl, (refl, tt)))))))))
+
 -- an end and an opening after it, with no step at all or with some
 abbrev pub time-rows : List CheckCase
 time-rows =
@@ -377,11 +407,11 @@ number-rows-hold c = rows checked (λ c. c .expected) (refl, (refl, (refl, (refl
 
 -- the whole table
 abbrev pub check-table : List CheckCase
-check-table = entry-rows ++ length-rows ++ form-rows ++ turn-rows ++ fault-rows ++ kept-rows ++ pair-rows ++ time-rows ++ number-rows
+check-table = entry-rows ++ length-rows ++ form-rows ++ turn-rows ++ fault-rows ++ kept-rows ++ pair-rows ++ add-rows ++ time-rows ++ number-rows
 
 -- the checker's verdict on every row is the one expected
 pub check-cases : (c : CheckCase) → c ∈ check-table → check (c .bytes) (c .order) ≡ c .expected
-check-cases = entry-rows-hold and length-rows-hold and form-rows-hold and turn-rows-hold and fault-rows-hold and kept-rows-hold and pair-rows-hold and time-rows-hold and number-rows-hold
+check-cases = entry-rows-hold and length-rows-hold and form-rows-hold and turn-rows-hold and fault-rows-hold and kept-rows-hold and pair-rows-hold and add-rows-hold and time-rows-hold and number-rows-hold
 
 -- ---- the lister
 
@@ -423,6 +453,9 @@ list-table =
     ∷ circle into 7 ∷ [] gets 18 at 2 leaving (7 ∷ [])
     -- a circle of 2 and 3; job 1 could have been placed
     ∷ log (opens 1 ∷ opens 2 ∷ opens 3 ∷ writes 2 5 ∷ writes 3 5 ∷ writes 2 5 ∷ []) into 7 ∷ 8 ∷ 9 ∷ [] gets 17 at 0 leaving (7 ∷ 8 ∷ 9 ∷ [])
+    -- adds of two jobs: 1 first; a read between them makes a circle
+    ∷ log-after adds-alone into 7 ∷ 8 ∷ [] gets 0 at 2 leaving (1 ∷ 2 ∷ [])
+    ∷ log (opens 1 ∷ opens 2 ∷ adds 1 5 ∷ reads 2 5 ∷ adds 1 5 ∷ []) into 7 ∷ 8 ∷ [] gets 17 at 0 leaving (7 ∷ 8 ∷ [])
     -- a circle of 1 and 2 whose writes nobody reads: 17 speaks of conflicting pairs only, R143
     ∷ log overwritten into 7 ∷ 8 ∷ 9 ∷ 9 ∷ [] gets 17 at 0 leaving (7 ∷ 8 ∷ 9 ∷ 9 ∷ [])
     -- a circle of 1, 2 and 3, and what is left of it when job 2 is abandoned: 3 precedes 1
@@ -449,7 +482,7 @@ answered c = list-order (c .bytes) (c .lent)
 -- the lister's answer to every row is the one expected, and so is what then stands in the list
 pub list-cases : (c : ListCase) → c ∈ list-table → list-order (c .bytes) (c .lent) ≡ c .expected
 unfolding answered
-list-cases c = rows answered (λ c. c .expected) (refl, (refl, (refl, (refl, (refl, (refl, (refl, (refl, (refl, (refl, (refl, (refl, (refl, (refl, (refl, (refl, (refl, (refl, (refl, (refl, (refl, (refl, (refl, (refl, (refl, (refl, (refl, (refl, (refl, (refl, (refl, tt)))))))))))))))))))))))))))))))
+list-cases c = rows answered (λ c. c .expected) (refl, (refl, (refl, (refl, (refl, (refl, (refl, (refl, (refl, (refl, (refl, (refl, (refl, (refl, (refl, (refl, (refl, (refl, (refl, (refl, (refl, (refl, (refl, (refl, (refl, (refl, (refl, (refl, (refl, (refl, (refl, (refl, (refl, tt)))))))))))))))))))))))))))))))))
 
 -- ---- the two limits, of any log
 

@@ -11,7 +11,7 @@ use lib.Dec.{T, ltb, eqb}
 use lib.ListN.{length, length-append}
 use Rattle.graph.specs.Decide.{or-test, not-test, eq-test, le-test, lt-test, own-test, every-of, every-test, answer, test-true, test-false, is-false, Decides, false-is}
 use Rattle.graph.specs.Lists.{_∈_, here}
-use Rattle.history.specs.Events.{read, write, Event, opens, steps, ends, abandons, History, gather, opened-by, has, opened, open-now, wrote}
+use Rattle.history.specs.Events.{read, write, add, Event, opens, steps, ends, abandons, History, gather, opened-by, has, opened, open-now, wrote}
 use Rattle.history.specs.Replies.{cells, numbers, Request, Want, an-open, a-step, an-end, an-abandon, a-publish, nothing, want, event-of, history-of}
 use Rattle.history.specs.Turns.{InTurn, InTurnAfter, Turns}
 use Rattle.history.specs.Granted.{passed, undenied, granted-sound}
@@ -180,6 +180,7 @@ no-fault h (opens j) t r =
     none-of-two 13 14 0 (ap not (test-true (every-test (λ i. lt-test i j) (opened h)) t)) (test-false (le-test most-jobs (length (opened h))) (λ q. omega arith))
 no-fault h (steps read j c) t r = none-of-two 12 13 0 (test-false (le-test cells c) (λ q. let p = t .1 in omega arith)) (ap not (test-true (has-test (open-now h) j) (t .0)))
 no-fault h (steps write j c) t r = none-of-two 12 13 0 (test-false (le-test cells c) (λ q. let p = t .1 in omega arith)) (ap not (test-true (has-test (open-now h) j) (t .0)))
+no-fault h (steps add j c) t r = none-of-two 12 13 0 (test-false (le-test cells c) (λ q. let p = t .1 in omega arith)) (ap not (test-true (has-test (open-now h) j) (t .0)))
 no-fault h (ends j) t r = ap (λ (b : Bool). cond (not b) 13 0) (test-true (has-test (open-now h) j) t)
 no-fault h (abandons j) t r = ap₂ (λ (a b : Bool). cond (not a || b) 13 0) (test-true (has-test (open-now h) j) (t .0)) (is-false (t .1))
 
@@ -188,6 +189,7 @@ unfolding want event-of
 event-for (opens j) = refl
 event-for (steps read j c) = refl
 event-for (steps write j c) = refl
+event-for (steps add j c) = refl
 event-for (ends j) = refl
 event-for (abandons j) = refl
 

@@ -9,7 +9,7 @@ use Prim.Native.Nat.{ℕ, zero, suc, _%_}
 use lib.Dec.{leb, ltb, eqb}
 use lib.ListN.{length}
 use Rattle.graph.specs.Decide.{every-of}
-use Rattle.history.specs.Events.{Kind, read, write, Event, opens, steps, ends, abandons, History, has, opened, open-now, wrote}
+use Rattle.history.specs.Events.{Kind, read, write, add, Event, opens, steps, ends, abandons, History, has, opened, open-now, wrote}
 use Rattle.history.specs.Formats.{records, bytes-of}
 use Rattle.history.specs.Replies.{cells, Request, Want, an-open, a-step, an-end, an-abandon, a-publish, nothing, want, _gives_, first-of, event-of}
 
@@ -36,7 +36,7 @@ ill-formed an-abandon r = not (eqb (r .byte1) 0) || not (eqb (r .cell) 0)
 ill-formed a-publish r = true
 ill-formed nothing r = true
 
--- 13: out of turn: an open whose number is not the highest so far, another record of a job that is not open there, an abandon of a job that wrote
+-- 13: out of turn: an open whose number is not the highest so far, another record of a job that is not open there, an abandon of a job that wrote or added
 unfoldable pub out-of-turn : History → Want → ℕ → Bool
 out-of-turn h an-open j = not (every-of (λ i. ltb i j) (opened h))
 out-of-turn h (a-step k) j = not (has (open-now h) j)
@@ -84,6 +84,7 @@ read-log bytes =
 abbrev pub kind-number : Kind → ℕ
 kind-number read = 2
 kind-number write = 3
+kind-number add = 7
 
 abbrev pub fields : ℕ → ℕ → ℕ → List ℕ
 fields k c j = k ∷ 0 ∷ (bytes-of 2 c ++ bytes-of 4 j)

@@ -10,14 +10,14 @@ use Prim.Native.Nat.{ℕ, _+_, _*_, _≤_}
 use native.Mathlib.Omega.{arith}
 use lib.ListN.{length}
 use Rattle.graph.specs.Lists.{_∈_, Before}
-use Rattle.history.specs.Events.{Kind, write, does, Event, History, opened, kept, Step, kept-steps}
+use Rattle.history.specs.Events.{Kind, write, add, does, Event, History, opened, kept, Step, kept-steps}
 use Rattle.history.specs.Replies.{Request, a-publish, want, event-of, reply, after, history-of}
 use Rattle.history.specs.ReplyLaws.{as-kind, after-granted}
 use Rattle.history.specs.Turns.{Turns}
 use Rattle.history.specs.Orders.{layout, Accepted}
-use Rattle.history.specs.Run.{Program, last-write}
+use Rattle.history.specs.Run.{Program, Raise, AnyOrder, last-write, SameSources}
 use Rattle.history.specs.OrderLaws.{accepted-no-circle}
-use Rattle.history.specs.Promises.{AsTheLog, one-at-a-time, same-reads, same-ends, real-time, granted-order}
+use Rattle.history.specs.Promises.{AsTheLog, one-at-a-time, same-reads, same-before, same-ends, real-time, granted-order}
 use Rattle.verdicts.specs.Logs.{Reading, faulty, events, most-jobs, read-log, record-of, log-of}
 use Rattle.verdicts.specs.Verdicts.{Verdict, check, Listed, listed, list-of, list-order}
 use Rattle.verdicts.specs.LogLaws.{Fault, faults, read-turns, log-append, read-back, Sized, granted-read}
@@ -38,12 +38,14 @@ verdict-only bytes order v = checked-only bytes order
 pub accepts-exactly : (bytes order : List ℕ) → (check bytes order .code ≡ 0) ↔ ((h : History) × (read-log bytes ≡ events h) × Accepted h order)
 accepts-exactly = check-exactly
 
--- what an accepted order of a log is good for: each kept read follows the same last write, each cell ends with the same write, whatever the
--- jobs compute, one at a time in that order they read and leave the same, and a job stands before every kept job that was opened after its end
+-- what an accepted order of a log is good for: each kept read follows the same last write and the same adds since, in any order, and so does each kept write; a kept add follows the same
+-- last write; each cell ends with the same write and the same adds since; whatever the jobs compute, and however a value is raised, if two raises can change places, one at a time in that
+-- order they read and leave the same; and a job stands before every kept job that was opened after its end
 pub record GoodFor (h : History) (order : List ℕ) : Type 1 where
-  pub reads : (r : Step) (k : Kind) → r .deed ≡ does k → (p p′ q q′ : List Step) → kept-steps h ≡ p ++ r ∷ p′ → layout (kept-steps h) order ≡ q ++ r ∷ q′ → last-write (r .cell) p ≡ last-write (r .cell) q
-  pub ends : (c : ℕ) → last-write c (kept-steps h) ≡ last-write c (layout (kept-steps h) order)
-  pub whatever : (X : Type 0) (f : Program X) (g : ℕ → X) → AsTheLog X f g h order
+  pub reads : (r : Step) (k : Kind) → r .deed ≡ does k → (k ≡ add → ⊥) → (p p′ q q′ : List Step) → kept-steps h ≡ p ++ r ∷ p′ → layout (kept-steps h) order ≡ q ++ r ∷ q′ → SameSources (r .cell) p q
+  pub before : (r : Step) (k : Kind) → r .deed ≡ does k → (p p′ q q′ : List Step) → kept-steps h ≡ p ++ r ∷ p′ → layout (kept-steps h) order ≡ q ++ r ∷ q′ → last-write (r .cell) p ≡ last-write (r .cell) q
+  pub ends : (c : ℕ) → SameSources c (kept-steps h) (layout (kept-steps h) order)
+  pub whatever : (X : Type 0) (raise : Raise X) → AnyOrder raise → (f : Program X) (g : ℕ → X) → AsTheLog X raise f g h order
   pub in-time : (i j : ℕ) → j ∈ kept h → Before (Event.ends i) (Event.opens j) h → Before i j order
 
 pub accepted-good : (bytes order : List ℕ) → check bytes order .code ≡ 0 → (h : History) × (read-log bytes ≡ events h) × GoodFor h order
@@ -52,7 +54,7 @@ accepted-good bytes order z =
     let t = read-turns bytes (r .0) (r .1) in (
       r .0,
       r .1,
-      record { reads = same-reads (r .0) t order (r .2); ends = same-ends (r .0) t order (r .2); whatever = one-at-a-time (r .0) t order (r .2); in-time = real-time (r .0) t order (r .2) },
+      record { reads = same-reads (r .0) t order (r .2); before = same-before (r .0) t order (r .2); ends = same-ends (r .0) t order (r .2); whatever = one-at-a-time (r .0) t order (r .2); in-time = real-time (r .0) t order (r .2) },
     )
 
 -- ---- the lister

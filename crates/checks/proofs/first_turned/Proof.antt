@@ -16,7 +16,7 @@ use Rattle.checks.proofs.first_turned.Tie as tie
 -- after i records
 abbrev Turning : List ℕ → ℕ → List ℕ → List ℕ → List ℕ → ℕ → Type 0
 Turning told n states placed seen i =
-    (i ≤ n) × (length seen ≡ 514)
+    (i ≤ n) × (length seen ≡ 770)
     × ((h : History) (numbers order : List ℕ) (count : ℕ) → Given h n numbers states told placed order count → Passed h n told order i seen)
 
 abbrev Inv-loop : tie.InvT-loop

@@ -33,7 +33,7 @@ returns-end c =
     let p = c .before .before in
     let t = p .before .before in
     let a = t .before .before .before .before .args in
-    puts-as (ap symbol (sym (ends-at (a .row) (a .job) (omega arith)))) (puts-fewer (p .put-job2 .ensures) (omega arith))
+    puts-as (ap symbol (sym (ends-at (a .row) (a .job) (omega arith) (t .if3 .left)))) (puts-fewer (p .put-job2 .ensures) (omega arith))
 
 pub put-symbol-spec : {M : Type 1} → statement M
 put-symbol-spec =

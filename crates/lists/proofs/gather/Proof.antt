@@ -17,7 +17,7 @@ use Rattle.lists.proofs.gather.Tie as tie
 -- after i records
 abbrev Gathering : List ℕ → ℕ → List ℕ → List ℕ → List ℕ → List ℕ → ℕ → Type 0
 Gathering told n states preds₀ preds seen i =
-    (i ≤ n) × (length seen ≡ 4112)
+    (i ≤ n) × (length seen ≡ 6160)
     × ((h : History) (numbers : List ℕ) (count : ℕ) → Taken h n numbers states told count → Blank preds₀ → Gathered h n told i preds seen)
 
 abbrev Inv-loop : tie.InvT-loop

@@ -9,7 +9,7 @@ abbrev Inv-loop : tie.InvT-loop
 Inv-loop h₀ text from₀ turn₀ h from turn = Unit {0}
 
 abbrev μ-loop : tie.MeasureT-loop
-μ-loop h₀ text from₀ turn₀ h from turn = 4096 - turn
+μ-loop h₀ text from₀ turn₀ h from turn = 8192 - turn
 
 loop-holds : tie.Need-loop-holds Inv-loop μ-loop
 loop-holds c = search needs

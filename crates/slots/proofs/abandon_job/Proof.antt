@@ -21,7 +21,7 @@ found c = slot-found (state c) (c .before .before .before .args .job .0) (c .bef
 load-requires : tie.Need-load-requires
 load-requires c κs = let q = found (c .before .before) .inside in omega arith
 
--- the slot's own writes, loaded
+-- the slot's own altered cells, loaded
 loaded : (c : tie.After-load) → let e = c .before .before .before in Part (state e .sets) (e .before .slot-for .result * 16 + 4) (c .load .result .words)
 loaded c = record { four = search needs; from = c .load .ensures }
 

@@ -1,4 +1,4 @@
--- `slots::clashing` meets its contract: each arm is the case that `write` says. Assumes nothing.
+-- `slots::clashing` meets its contract: each arm is the case that `twice` says. Assumes nothing.
 use borrow.Author.Needs.{needs}
 use Rattle.slots.proofs.clashing.Statement.{statement}
 use Rattle.slots.proofs.clashing.Tie as tie
@@ -16,5 +16,5 @@ clashing-spec =
     (tie.spec
     (λ c. search needs) (λ c. search needs) (λ c. search needs) (λ c. search needs) (λ c. search needs) (λ c. search needs)
     (λ c. search needs) (λ c. search needs) (λ c. search needs) (λ c. search needs) (λ c. search needs) (λ c. search needs)
-    (λ c. search needs) (λ c. search needs) (λ c. search needs) (λ c. search needs) (λ c. search needs)
+    (λ c. search needs) (λ c. search needs) (λ c. search needs) (λ c. search needs)
     returns returns-2)

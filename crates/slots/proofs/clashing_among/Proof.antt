@@ -11,7 +11,7 @@ use Rattle.slots.proofs.clashing_among.Tie as tie
 
 -- the rule of the rows
 rule : tie.Start → ℕ → Bool
-rule s = met (s .args .sets .now) (kind-of (s .args .write)) (s .args .cell .0)
+rule s = met (s .args .sets .now) (kind-of (s .args .deed)) (s .args .cell .0)
 
 returns : tie.Need-returns
 unfolding rule

@@ -1,4 +1,4 @@
--- `slots::clashing_past` meets its contract: each arm is the case that `write` says. Assumes nothing.
+-- `slots::clashing_past` meets its contract: each arm is the case that `twice` says. Assumes nothing.
 use borrow.Author.Needs.{needs}
 use Rattle.slots.proofs.clashing_past.Statement.{statement}
 use Rattle.slots.proofs.clashing_past.Tie as tie

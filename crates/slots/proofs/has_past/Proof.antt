@@ -1,4 +1,4 @@
--- `slots::has_past` meets its contract: the past reads and the past writes are taken out, and their union is tested. Assumes nothing.
+-- `slots::has_past` meets its contract: the past used and the past altered cells are taken out, and their union is tested. Assumes nothing.
 use Prim.Native.Nat.{_+_, _*_}
 use borrow.Author.Needs.{needs}
 use Rattle.slots.specs.Lent.{sets-only}
@@ -7,17 +7,17 @@ use Rattle.slots.proofs.PastLaws.{past-law}
 use Rattle.slots.proofs.has_past.Statement.{statement}
 use Rattle.slots.proofs.has_past.Tie as tie
 
-reads : (c : tie.After-load) → let a = c .before .before .args in Part (a .sets .now) (a .row .0 * 16 + 8) (c .load .result .words)
-reads c = record { four = search needs; from = c .load .ensures }
+used : (c : tie.After-load) → let a = c .before .before .args in Part (a .sets .now) (a .row .0 * 16 + 8) (c .load .result .words)
+used c = record { four = search needs; from = c .load .ensures }
 
-writes : (c : tie.After-load2) → let a = c .before .before .before .args in Part (a .sets .now) (a .row .0 * 16 + 12) (c .load2 .result .words)
-writes c = record { four = search needs; from = c .load2 .ensures }
+altered : (c : tie.After-load2) → let a = c .before .before .before .args in Part (a .sets .now) (a .row .0 * 16 + 12) (c .load2 .result .words)
+altered c = record { four = search needs; from = c .load2 .ensures }
 
 returns : tie.Need-returns
 returns c =
     let u = c .before in
     let a = u .before .before .before .before .args in
-    past-law (sets-only (a .sets .now)) (a .row .0) (reads (u .before .before)) (writes (u .before)) (u .union .ensures) (c .is-empty .ensures)
+    past-law (sets-only (a .sets .now)) (a .row .0) (used (u .before .before)) (altered (u .before)) (u .union .ensures) (c .is-empty .ensures)
 
 pub has-past-spec : {M : Type 1} → statement M
 has-past-spec =

@@ -1,31 +1,36 @@
--- `slots::mark_own` meets its contract: four words are taken out, gain the cell's mark, and are stored back. Assumes nothing.
-use mathlib.Core.Path.{_≡_, _∙_}
-use mathlib.Core.Logic.{⊎-elim}
-use mathlib.Core.Bool.{cond}
-use Prim.Native.Nat.{_+_, _*_, _/_, _≤_}
-use native.Mathlib.Omega.{arith}
+-- `slots::mark_own` meets its contract: a law of SetLaws for each deed. Assumes nothing.
+use mathlib.Core.Path.{sym, ap, _∙_}
+use lib.Dec.{lit≤}
 use borrow.Author.Needs.{needs}
-use Rattle.slots.proofs.SetLaws.{marked-set}
+use Rattle.slots.specs.Lent.{kind-of}
+use Rattle.slots.specs.Rows.{marked-own}
+use Rattle.slots.specs.declared.Deed.{Deed}
+use Rattle.slots.proofs.SetLaws.{put-read, put-add}
 use Rattle.slots.proofs.mark_own.Statement.{statement}
 use Rattle.slots.proofs.mark_own.Tie as tie
 
--- where the four words begin, and where the cell's word is
-placed : (c : tie.Joined1)
-    → (c .if1 .at ≤ 508)
-    × (c .before .before .args .slot .0 * 16 + (cond (c .before .before .args .write) 4 0 + c .before .before .args .cell .0 / 64)
-    ≡ c .if1 .at + c .before .before .args .cell .0 / 64)
-placed c =
-    ⊎-elim (λ w. (omega arith, rw (w .0 .taken) (omega arith))) (λ w. (omega arith, rw (w .0 .left) (omega arith))) (c .if1 .came)
+returns-read : tie.Need-returns
+returns-read c =
+    let t = c .before .before in
+    let a = t .before .before .args in
+    c .put-own .ensures ∙ put-read (a .sets .now) (a .slot .0) (a .cell .0)
+    ∙ ap (λ (d : Deed). marked-own (a .sets .now) (a .slot .0) (kind-of d) (a .cell .0)) (sym (t .enum-told .given .1))
 
-returns : tie.Need-returns
-returns c =
-    let j = c .before .before .before .before .before in
-    c .store .ensures
-    ∙ marked-set 512 (j .before .before .args .sets .now) (j .if1 .at) (j .before .before .args .cell .0) (search needs)
-    (record { four = search needs; from = c .before .before .before .load .ensures }) (c .before .before .with .ensures) (placed j .1)
+returns-write : tie.Need-returns-2
+returns-write c =
+    let t = c .before .before in
+    let a = t .before .before .args in
+    c .put-both .ensures ∙ ap (λ (d : Deed). marked-own (a .sets .now) (a .slot .0) (kind-of d) (a .cell .0)) (sym (t .enum-told2 .given .1))
+
+returns-add : tie.Need-returns-3
+returns-add c =
+    let t = c .before .before in
+    let a = t .before .before .args in
+    c .put-own2 .ensures ∙ put-add (a .sets .now) (a .slot .0) (a .cell .0)
+    ∙ ap (λ (d : Deed). marked-own (a .sets .now) (a .slot .0) (kind-of d) (a .cell .0)) (sym (t .enum-told3 .given .1))
 
 pub mark-own-spec : {M : Type 1} → statement M
 mark-own-spec =
     tie.close
-    (tie.spec (λ c. search needs) (λ c. search needs) (λ c. search needs) (λ c κs. placed (c .before) .0) (λ c κs. search needs)
-    (λ c κs. placed (c .before .before .before .before) .0) returns)
+    (tie.spec (λ c. search needs) (λ c κs. (search needs, lit≤ tt)) (λ c. search needs) (λ c κs. search needs) (λ c. search needs) (λ c κs. (search needs, lit≤ tt))
+    returns-read returns-write returns-add)

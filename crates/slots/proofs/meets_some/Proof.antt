@@ -16,21 +16,21 @@ start c = c .before .before .before .before
 asked : (c : tie.Start) → Cells (c .args .cells .words)
 asked c = record { four = search needs; fits = λ i. let f : Fits w64 (getD (c .args .cells .words) i 0) = search needs in f .fits }
 
-reads : (c : tie.After-load) → let a = c .before .before .args in Part (a .sets .now) (a .row .0 * 16 + 8) (c .load .result .words)
-reads c = record { four = search needs; from = c .load .ensures }
+used : (c : tie.After-load) → let a = c .before .before .args in Part (a .sets .now) (a .row .0 * 16 + 8) (c .load .result .words)
+used c = record { four = search needs; from = c .load .ensures }
 
-writes : (c : tie.After-load2) → let a = c .before .before .before .args in Part (a .sets .now) (a .row .0 * 16 + 12) (c .load2 .result .words)
-writes c = record { four = search needs; from = c .load2 .ensures }
+altered : (c : tie.After-load2) → let a = c .before .before .before .args in Part (a .sets .now) (a .row .0 * 16 + 12) (c .load2 .result .words)
+altered c = record { four = search needs; from = c .load2 .ensures }
 
 past : (c : tie.After-union) → Cells (c .union .result .words)
 past c = record { four = search needs; fits = λ i. let f : Fits w64 (getD (c .union .result .words) i 0) = search needs in f .fits }
 
 -- in another row
-own-reads : (c : tie.After-load3) → length (c .load3 .result .words) ≡ 4
-own-reads c = search needs
+own-used : (c : tie.After-load3) → length (c .load3 .result .words) ≡ 4
+own-used c = search needs
 
-own-writes : (c : tie.After-load4) → length (c .load4 .result .words) ≡ 4
-own-writes c = search needs
+own-altered : (c : tie.After-load4) → length (c .load4 .result .words) ≡ 4
+own-altered c = search needs
 
 own : (c : tie.After-union2) → length (c .union2 .result .words) ≡ 4
 own c = search needs
@@ -43,7 +43,7 @@ returns c =
     let t = c .before in
     let u = t .before .before .before in
     let a = start u .args in
-    meets-itself (a .sets .now) (a .row .0) (reads (u .before .before)) (writes (u .before)) (u .union .ensures) (asked (start u)) (a .slot .0) (past u) (t .if1 .taken) (c .overlaps .ensures)
+    meets-itself (a .sets .now) (a .row .0) (used (u .before .before)) (altered (u .before)) (u .union .ensures) (asked (start u)) (a .slot .0) (past u) (t .if1 .taken) (c .overlaps .ensures)
 
 returns-2 : tie.Need-returns-2
 returns-2 c =
@@ -53,8 +53,8 @@ returns-2 c =
     let e = r .before in
     let u = e .before .before .before in
     let a = start u .args in
-    meets-other (a .sets .now) (a .row .0) (reads (u .before .before)) (writes (u .before)) (u .union .ensures) (asked (start u)) (a .slot .0)
-    (record { four = own-reads r; from = r .load3 .ensures }) (record { four = own-writes w; from = w .load4 .ensures }) (o .union2 .ensures) (own o) (past u)
+    meets-other (a .sets .now) (a .row .0) (used (u .before .before)) (altered (u .before)) (u .union .ensures) (asked (start u)) (a .slot .0)
+    (record { four = own-used r; from = r .load3 .ensures }) (record { four = own-altered w; from = w .load4 .ensures }) (o .union2 .ensures) (own o) (past u)
     (c .before .union3 .ensures) (all (c .before)) (e .if1 .left) (c .overlaps2 .ensures)
 
 pub meets-some-spec : {M : Type 1} → statement M

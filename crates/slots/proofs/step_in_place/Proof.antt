@@ -1,8 +1,8 @@
 -- `slots::step_in_place` meets its contract: a law of RequestLaws for each arm, from what the function called there ensures. Assumes nothing.
-use mathlib.Core.Bool.{true, false}
 use borrow.Author.Needs.{needs}
 use Rattle.held.specs.Held.{Held}
 use Rattle.slots.specs.Lent.{lent}
+use Rattle.slots.specs.declared.Deed.the-variants.{Read, Write, Add}
 use Rattle.slots.proofs.RequestLaws.{steps-byte, steps-kind, steps-open, steps-step, steps-end, steps-abandon, steps-publish}
 use Rattle.slots.proofs.step_in_place.Statement.{statement}
 use Rattle.slots.proofs.step_in_place.Tie as tie
@@ -27,13 +27,13 @@ returns-read : tie.Need-returns-3
 returns-read c =
     let m = c .before .before .before .before in
     let e = well (m .before) in
-    steps-step {h = held e} (e .before .args .t6) (e .if1 .left) false (m .match .keys2) (m .before .job-in .ensures) (m .before .before .cell-in .ensures) (c .step-job .ensures)
+    steps-step {h = held e} (e .before .args .t6) (e .if1 .left) Read (m .match .keys2) (m .before .job-in .ensures) (m .before .before .cell-in .ensures) (c .step-job .ensures)
 
 returns-write : tie.Need-returns-4
 returns-write c =
     let m = c .before .before .before .before in
     let e = well (m .before) in
-    steps-step {h = held e} (e .before .args .t6) (e .if1 .left) true (m .match .keys3) (m .before .job-in .ensures) (m .before .before .cell-in .ensures) (c .step-job2 .ensures)
+    steps-step {h = held e} (e .before .args .t6) (e .if1 .left) Write (m .match .keys3) (m .before .job-in .ensures) (m .before .before .cell-in .ensures) (c .step-job2 .ensures)
 
 returns-end : tie.Need-returns-5
 returns-end c =
@@ -53,7 +53,13 @@ returns-publish c =
     let e = well (m .before) in
     steps-publish {h = held e} (e .before .args .t6) (e .if1 .left) (m .match .keys6) (m .before .job-in .ensures) (m .before .before .cell-in .ensures) (c .publish-job .ensures)
 
-returns-kind : tie.Need-returns-8
+returns-add : tie.Need-returns-8
+returns-add c =
+    let m = c .before .before .before .before in
+    let e = well (m .before) in
+    steps-step {h = held e} (e .before .args .t6) (e .if1 .left) Add (m .match .keys7) (m .before .job-in .ensures) (m .before .before .cell-in .ensures) (c .step-job3 .ensures)
+
+returns-kind : tie.Need-returns-9
 returns-kind c =
     let e = well (c .before .before) in
     steps-kind {h = held e} (e .before .args .t6) (e .if1 .left) (c .before .match .rest) (c .refused2 .ensures)
@@ -62,5 +68,5 @@ pub step-in-place-spec : {M : Type 1} → statement M
 step-in-place-spec =
     tie.close
     (tie.spec (λ c. search needs) (λ c κs. search needs) returns-byte (λ c. search needs) (λ c κs. search needs) (λ c κs. search needs) (λ c κs. search needs)
-    (λ c κs. search needs) (λ c κs. search needs) (λ c κs. search needs) (λ c κs. search needs) (λ c κs. search needs) (λ c κs. search needs)
-    returns-open returns-read returns-write returns-end returns-abandon returns-publish returns-kind)
+    (λ c κs. search needs) (λ c κs. search needs) (λ c κs. search needs) (λ c κs. search needs) (λ c κs. search needs) (λ c κs. search needs) (λ c κs. search needs)
+    returns-open returns-read returns-write returns-end returns-abandon returns-publish returns-add returns-kind)

@@ -32,7 +32,7 @@ shl-me c = found (c .before .before .before .before .before) .inside
 looked : (c : tie.After-reached)
     → let e = c .before .before .before .before in
     let a = e .before .before .before .args in
-    Looked (state e) (a .write) (a .job .0) (a .cell) (e .before .slot-for .result)
+    Looked (state e) (a .deed) (a .job .0) (a .cell) (e .before .slot-for .result)
     (c .before .before .touching .result) (c .reached .result)
 looked c =
     let e = c .before .before .before .before in

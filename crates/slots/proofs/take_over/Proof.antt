@@ -1,4 +1,4 @@
--- `slots::take_over` meets its contract: the past reads gain, and then the past writes. Assumes nothing.
+-- `slots::take_over` meets its contract: the past used cells gain, and then the past altered ones. Assumes nothing.
 use mathlib.Core.Path.{_∙_}
 use Prim.Native.Nat.{_*_, _+_}
 use native.Mathlib.Omega.{arith}
@@ -17,11 +17,11 @@ use Rattle.slots.proofs.take_over.Lts as lts
 abbrev start : tie.After-store → tie.Start
 start c = c .before .before .before .before .before .before .before .before .before .before .before .before
 
-abbrev reads-done : tie.After-load-arg6 → tie.After-store
-reads-done c = c .before .before .before .before .before
+abbrev used-done : tie.After-load-arg6 → tie.After-store
+used-done c = c .before .before .before .before .before
 
-abbrev reads-stored : tie.After-store-arg2 → tie.After-store
-reads-stored c = c .before .before .before .before .before .before .before .before .before
+abbrev used-stored : tie.After-store-arg2 → tie.After-store
+used-stored c = c .before .before .before .before .before .before .before .before .before
 
 -- whatever `load` is called with, its set has four words, those from the place on
 loaded : {Γ : Cx} {ar : ArgsT lts.ps·0 (Γ .locals)} {u : Mo Γ} (d : Called lts.ps·0 lts.r·0 load-reads.Learnt Γ ar u)
@@ -31,7 +31,7 @@ loaded d = record { four = search needs; from = d .ensures }
 -- The lists and places are written out: with `_` antt would compare two tables of 512 by computing them.
 returns : tie.Need-returns
 returns c =
-    let d = reads-stored (c .before) in
+    let d = used-stored (c .before) in
     let a = start d .args in
     let r = d .before .before .before .before in
     let w = c .before .before .before .before in
@@ -52,7 +52,7 @@ take-over-spec =
     (λ c. search needs) (λ c. search needs) (λ c. search needs) (λ c. search needs) (λ c. search needs)
     (λ c κs. search needs) (λ c κs. search needs) (λ c. search needs) (λ c κs. search needs) (λ c κs. search needs) (λ c κs. search needs) (λ c κs. search needs)
     (λ c. search needs) (λ c κs. search needs) (λ c. search needs) (λ c κs. search needs)
-    (λ c. omega (arith, start (reads-done c) .pre)) (λ c κs. omega (arith, start (reads-done c) .pre))
+    (λ c. omega (arith, start (used-done c) .pre)) (λ c κs. omega (arith, start (used-done c) .pre))
     (λ c κs. search needs) (λ c κs. search needs)
-    (λ c. omega (arith, start (reads-stored c) .pre)) (λ c κs. omega (arith, start (reads-stored c) .pre))
+    (λ c. omega (arith, start (used-stored c) .pre)) (λ c κs. omega (arith, start (used-stored c) .pre))
     returns)
