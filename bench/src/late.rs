@@ -204,7 +204,7 @@ impl WholeLate {
 
 // ---- bounded memory
 
-/// For each cell which slots have it, among own and among past, reads and writes apart; and for each slot which ones it leads to, itself too.
+/// For each cell which slots have it, among own and among past, used and altered cells apart (a write is among both); and for each slot which ones it leads to, itself too.
 #[derive(Clone, PartialEq)]
 pub struct Columns {
     next: u64,
@@ -343,6 +343,8 @@ impl Columns {
         }
         self.lead(met, s);
         for c in cells {
+            // a write uses its cell and alters it
+            self.own[0][c as usize] |= 1 << s;
             self.own[1][c as usize] |= 1 << s;
         }
         let others = slots(!self.free & !(1 << s)).filter(|&i| self.leads[i] >> s & 1 == 1);
