@@ -5,22 +5,6 @@ use crate::judge;
 use crate::late::{named, Ask, Cells, Columns, Stream, WholeLate, LATE_SHAPES};
 use crate::requests::*;
 
-fn number<T: std::str::FromStr>(word: &str) -> T {
-    word.parse()
-        .unwrap_or_else(|_| panic!("no number that fits: {word}"))
-}
-
-fn kind_of(word: &str) -> u8 {
-    match word {
-        "open" => OPEN,
-        "read" => READ,
-        "write" => WRITE,
-        "end" => END,
-        "abandon" => ABANDON,
-        w => number(w),
-    }
-}
-
 fn set_of(words: &[&str]) -> Cells {
     let mut cells = [0; 4];
     for word in words {

@@ -232,3 +232,25 @@ impl Stream {
         }
     }
 }
+
+// ---- words of the texts
+
+/// A number as it is written; a word that is none ends the run.
+pub fn number<T: std::str::FromStr>(word: &str) -> T {
+    word.parse()
+        .unwrap_or_else(|_| panic!("no number that fits: {word}"))
+}
+
+/// A kind by its name, or by its number.
+pub fn kind_of(word: &str) -> u8 {
+    match word {
+        "open" => OPEN,
+        "read" => READ,
+        "write" => WRITE,
+        "end" => END,
+        "abandon" => ABANDON,
+        "publish" => PUBLISH,
+        "add" => ADD,
+        w => number(w),
+    }
+}

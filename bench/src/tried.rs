@@ -6,24 +6,6 @@ use crate::judge;
 use crate::requests::*;
 use crate::whole::Whole;
 
-fn number<T: std::str::FromStr>(word: &str) -> T {
-    word.parse()
-        .unwrap_or_else(|_| panic!("no number that fits: {word}"))
-}
-
-fn kind_of(word: &str) -> u8 {
-    match word {
-        "open" => OPEN,
-        "read" => READ,
-        "write" => WRITE,
-        "end" => END,
-        "abandon" => ABANDON,
-        "publish" => PUBLISH,
-        "add" => ADD,
-        w => number(w),
-    }
-}
-
 /// A number and its step, as in `5`, `5+1`, `512-1`.
 fn stepped(word: &str) -> (u32, u32) {
     if let Some((first, step)) = word.split_once('+') {
