@@ -14,10 +14,10 @@ use borrow.Author.Tests.{lt-ltb, le-ltb}
 use Rattle.marks.specs.Marks.{tab}
 use Rattle.marks.specs.MarkLaws.{tab-suc}
 use Rattle.history.specs.Formats.{bytes-of, request-of, records, answer-bytes}
-use Rattle.history.specs.RecordLaws.{first-record, no-record}
+use Rattle.history_laws.specs.RecordLaws.{first-record, no-record}
 use Rattle.history.specs.Replies.{Reply, Request, replies}
 use Rattle.held.specs.Held.{Held, fresh-held, answer-to, after, answers}
-use Rattle.held.specs.HeldExact.{held-exact}
+use Rattle.held_laws.specs.HeldExact.{held-exact}
 use Rattle.late.specs.Late.{Ask}
 use Rattle.late.specs.LateHeld.{late-answer, late-next}
 use Rattle.slots.specs.Lent.{lent, numbered, Steps, Lates}

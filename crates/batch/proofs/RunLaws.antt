@@ -22,7 +22,7 @@ use Rattle.history.specs.Events.{Kind, read, write, add}
 use Rattle.history.specs.Formats.{records, request-of}
 use Rattle.history.specs.Replies.{cells, Request, Reply, Want, a-step, want, Facts, tests, _gives_, first-of, code-of, reply-of}
 use Rattle.held.specs.Held.{Held, slot-of, stepped-at, facts, with-slot, moved, answer-to, after, answers, after-all}
-use Rattle.history.specs.RecordLaws.{record-there, record-none, drop-record, drop-none}
+use Rattle.history_laws.specs.RecordLaws.{record-there, record-none, drop-record, drop-none}
 use Rattle.slots.specs.Lent.{lent, numbered, Steps}
 use Rattle.slots.specs.declared.Moved.{Moved}
 use Rattle.batch.specs.Batch.{Verdict, verdict, taken, item-code, codes, first-refused, ill-sized, judged, batch, batch-leaves, packed}

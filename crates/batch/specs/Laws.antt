@@ -18,8 +18,8 @@ use Rattle.history.specs.Formats.{records}
 use Rattle.history.specs.Replies.{numbers, Request, Reply, reply, replies-from, history-from, replies, history-of}
 use Rattle.history.specs.Replies as full
 use Rattle.held.specs.Held.{Held, fresh-held, answer-to, after, answers, after-all}
-use Rattle.held.specs.HeldExact.{held-exact}
-use Rattle.history.specs.RecordLaws.{records-length}
+use Rattle.held_laws.specs.HeldExact.{held-exact}
+use Rattle.history_laws.specs.RecordLaws.{records-length}
 use Rattle.batch.specs.Batch.{Verdict, verdict, taken, item-code, codes, first-refused, ill-sized, judged, batch, batch-leaves, full-batch, full-leaves, packed}
 use Rattle.batch.specs.Cases.{bytes}
 

@@ -1,9 +1,9 @@
 // The checker: the verdict on a log and on a proposed order of its jobs, each in a file.
 ghost use Prim.Native.Nat.{_≤_};
 ghost use lib.ListN.{length};
-ghost use Rattle.plain.specs.Loads.{Stays};
+ghost use Rattle.plain.specs.Stays.{Stays};
+use files::Loaded;
 use libc::STDERR_FILENO;
-use plain::Loaded;
 
 // A number of four bytes, low byte first.
 fn four(a: u8, b: u8, c: u8, d: u8) -> u32 {
@@ -78,15 +78,15 @@ fn judge(log: &[u8], order: &[u32], out: &mut [u8]) {
         order.len() as u64,
         out,
     );
-    plain::show(&out[..end]);
+    files::show(&out[..end]);
 }
 
 // The log and the order are read in full, or up to the bytes and the entry past what a log and an order can have.
 fn run(log: &mut [u8], bytes: &mut [u8], entries: &mut [u32], out: &mut [u8]) {
-    let Loaded::Bytes(n) = plain::load(1, log) else {
+    let Loaded::Bytes(n) = files::load(1, log) else {
         return;
     };
-    let Loaded::Bytes(m) = plain::load(2, bytes) else {
+    let Loaded::Bytes(m) = files::load(2, bytes) else {
         return;
     };
     if m % 4 != 0 {
@@ -101,7 +101,7 @@ fn run(log: &mut [u8], bytes: &mut [u8], entries: &mut [u32], out: &mut [u8]) {
 }
 
 fn usage() {
-    plain::show(
+    files::show(
         b"usage: checker LOG ORDER\n\
         Judges an order of the jobs of a log.\n\
         LOG: records of 8 bytes, at most 4096, and at most 512 opens. A record is the kind (1 open, 2 read, 3 write, 4 end, 5 abandon),\n\

@@ -13,7 +13,7 @@ use lib.ListN.{length, getD}
 use Rattle.history.specs.Events.{History, kept, kept-steps}
 use Rattle.verdicts.specs.Logs.{Reading, faulty, events, read-log}
 use Rattle.verdicts.specs.Verdicts.{Verdict, verdict, first-bad, missing, first-backward, or-else, judged, judge, check}
-pub use Rattle.verdicts.specs.SizeLaws.{log-size, FaultKnown, fault-known, last-code}
+pub use Rattle.verdicts_laws.specs.SizeLaws.{log-size, FaultKnown, fault-known, last-code}
 use Rattle.tallies.specs.Jobs.{Jobs as Table}
 use Rattle.tallies.specs.Places.{Placed, found-at}
 use Rattle.tallies.specs.Counts.{kept-below, unplaced}

@@ -13,7 +13,7 @@ use Rattle.graph.specs.Decide.{not-test, eq-test, answer, test-false}
 use Rattle.graph.specs.Lists.{_∈_, here, later, only}
 use Rattle.text.specs.Puts.{Puts, puts-none, puts-then}
 use Rattle.history.specs.Events.{read, write, add, Deed, does, opening, ending, Event, opens, steps, ends, abandons, History, gather, abandoned-by, has, abandoned, Step, step-at, steps-from, all-steps, kept-steps}
-use Rattle.history.specs.TurnLaws.{has-test}
+use Rattle.history_laws.specs.TurnLaws.{has-test}
 use Rattle.tallies.specs.Jobs.{room, row-of, Taken}
 use Rattle.tallies.specs.PassLaws.{slot-at, row-at, Pass, Meets, pass-start, pass-all, pass-none, pass-gone, meets, pass-on}
 use Rattle.notation.specs.Notation.{symbol, text-of, job-in, without-abandoned, NoAdd}

@@ -1,7 +1,2 @@
 pub mod Held
 pub mod Cases
-pub mod HeldMoves
-pub mod HeldLaws
-pub mod Seen
-pub mod HeldExact
-pub mod HeldBlank

@@ -1,8 +1,6 @@
 pub mod Events
 pub mod Replies
-pub mod ReplyLaws
 pub mod Formats
-pub mod RecordLaws
 pub mod Turns
 pub mod Orders
 pub mod Run
@@ -10,15 +8,3 @@ pub mod Memory
 pub mod Tables
 pub mod Cases
 pub mod Arbiters
-pub mod EventLaws
-pub mod CircleLaws
-pub mod TurnLaws
-pub mod MemoryLaws
-pub mod MemoryTells
-pub mod Granted
-pub mod Exact
-pub mod LayoutLaws
-pub mod RunLaws
-pub mod OrderLaws
-pub mod TimeLaws
-pub mod Promises

@@ -13,7 +13,7 @@ use Rattle.graph.specs.Decide.{or-test, not-test, eq-test, lt-test, test-true}
 use Rattle.history.specs.Events.{History}
 use Rattle.history.specs.Formats.{records}
 use Rattle.verdicts.specs.Logs.{Reading, faulty, events, read-from, read-log, log-of}
-use Rattle.verdicts.specs.LogLaws.{log-length}
+use Rattle.verdicts_laws.specs.LogLaws.{log-length}
 use Rattle.text.specs.Lays.{Lays}
 use Rattle.text.specs.LaysLaws.{lays-room}
 use Rattle.blocks.specs.Blocks.{refused}

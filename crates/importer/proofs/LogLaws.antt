@@ -12,7 +12,7 @@ use lib.ListN.{length, getD, take, drop, set, length-append, drop-of-length-le}
 use lib.Seq.{length-take-le, take-at, drop-cons, sets-eq}
 use Rattle.history.specs.Events.{History}
 use Rattle.verdicts.specs.Logs.{fields, record-of, log-of}
-use Rattle.verdicts.specs.LogLaws.{log-append}
+use Rattle.verdicts_laws.specs.LogLaws.{log-append}
 use Rattle.notation.specs.Parse.{Stand, next, whole-at, event-at, grown, Parsed, wrong, parse-end, parse-from}
 use Rattle.importer.specs.Importer.{Fit, after-symbol, Holds}
 use Rattle.importer.proofs.StandLaws.{told}

@@ -1,8 +1,3 @@
 pub mod Late
 pub mod LateHeld
 pub mod Cases
-pub mod ClosedLaws
-pub mod LateLaws
-pub mod LateExact
-pub mod LateKept
-pub mod LatePromises

@@ -12,7 +12,7 @@ use lib.Seq.{length-take-le}
 use borrow.Author.Tests.{lt-ltb, le-ltb, le-leb, lt-leb}
 use Rattle.text.specs.Puts.{Puts, agree}
 use Rattle.history.specs.Formats.{request-of, records}
-use Rattle.history.specs.RecordLaws.{no-record, eight, next-record}
+use Rattle.history_laws.specs.RecordLaws.{no-record, eight, next-record}
 use Rattle.history.specs.Replies.{Request, Reply}
 use Rattle.held.specs.Held.{Held, answer-to, after, answers, after-all}
 use Rattle.slots.specs.Lent.{lent, numbered, Steps}

@@ -8,10 +8,10 @@ use native.Mathlib.Nat.{add-zero}
 use native.Mathlib.Omega.{arith}
 use lib.ListN.{length}
 use Rattle.history.specs.Formats.{records}
-use Rattle.history.specs.RecordLaws.{records-length}
+use Rattle.history_laws.specs.RecordLaws.{records-length}
 use Rattle.history.specs.Replies.{Request, Reply}
 use Rattle.held.specs.Held.{Held, fresh-held, answer-to, after, answers, after-all}
-use Rattle.held.specs.HeldExact.{held-exact}
+use Rattle.held_laws.specs.HeldExact.{held-exact}
 use Rattle.lines.specs.Lines.{line, lines, lines-of, header-line, tail-line, trial-output}
 use Rattle.lines.specs.Writes.{Starts, Writes}
 use Rattle.lines.specs.declared.Written.{Written}

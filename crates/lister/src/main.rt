@@ -1,8 +1,8 @@
 // The lister: the lowest-first order of the jobs of a log in a file.
 ghost use Prim.Native.Nat.{_≤_};
 ghost use lib.ListN.{length};
-ghost use Rattle.plain.specs.Loads.{Stays};
-use plain::Loaded;
+ghost use Rattle.plain.specs.Stays.{Stays};
+use files::Loaded;
 
 // A number on a line of its own.
 fn put_line(n: u32, out: &mut [u8], at: usize) -> usize
@@ -55,16 +55,16 @@ fn put_answer(code: u32, place: usize, order: &[u32], out: &mut [u8]) -> usize
 
 // The log is read in full, or up to the byte past what a log can have.
 fn run(log: &mut [u8], order: &mut [u32], out: &mut [u8]) {
-    let Loaded::Bytes(n) = plain::load(1, log) else {
+    let Loaded::Bytes(n) = files::load(1, log) else {
         return;
     };
     let answer = orders::list_order(&log[..n], order);
     let end = put_answer(answer.code(), answer.place(), order, out);
-    plain::show(&out[..end]);
+    files::show(&out[..end]);
 }
 
 fn usage() {
-    plain::show(
+    files::show(
         b"usage: lister LOG\n\
         Lists the kept jobs of a log in an order that keeps every conflicting pair and puts each job before those opened after its end,\n\
         the lowest number first where there is a choice.\n\

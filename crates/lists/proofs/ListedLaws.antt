@@ -10,11 +10,11 @@ use lib.Dec.{ltb}
 use lib.ListN.{length, take, drop}
 use Rattle.history.specs.Events.{History, kept}
 use Rattle.history.specs.Orders.{order-of}
-use Rattle.history.specs.OrderLaws.{order-accepted}
+use Rattle.history_laws.specs.OrderLaws.{order-accepted}
 use Rattle.history.specs.Turns.{Turns}
 use Rattle.verdicts.specs.Logs.{Reading, faulty, events, read-log}
 use Rattle.verdicts.specs.Verdicts.{Listed, refused, written, listed, list-of, list-order}
-use Rattle.verdicts.specs.VerdictLaws.{accepted-length}
+use Rattle.verdicts_laws.specs.VerdictLaws.{accepted-length}
 use Rattle.lists.specs.Answers.{answered}
 use Rattle.lists.specs.declared.Listed.{Listed as Answer}
 use Rattle.lists.specs.declared.Listed.the-variants.{Done, Length, Form, Turn, TooMany, NoOrder, Short}

@@ -8,7 +8,7 @@ ghost use Rattle.history.specs.Events.{History, kept};
 ghost use Rattle.verdicts.specs.Verdicts.{list-order};
 ghost use Rattle.tallies.specs.Jobs.{Jobs, Blank, Taken};
 ghost use Rattle.tallies.specs.Places.{Lists};
-ghost use Rattle.tallies.specs.Marks.{mark, Put, Struck, Joined, Gained, LowestMark, Common, Preceded, KeptMarks, Settled, Only, In-word, Sorted};
+ghost use Rattle.tallies.specs.Marks.{mark, Put, Struck, Common, Preceded, KeptMarks, Settled, Only, In-word, Sorted};
 ghost use Rattle.lists.specs.Answers.{answered};
 use checks::Kept;
 use logs::Read;
@@ -29,38 +29,6 @@ fn strike_mark(words: &mut [u64], at: usize)
     ensures { λ _. ⌜ (length (now (words .exit)) ≡ length (now (words .entry))) × Struck at (now (words .entry)) (now (words .exit)) ⌝ }
 {
     words[at / 64] &= !(1u64 << (at % 64));
-}
-
-// A row of `words` gains what a row of `others` has.
-fn join(words: &mut [u64; 4096], row: usize, others: &[u64; 6160], other: usize)
-    requires { ⌜ (row < 512) × (other < 770) ⌝ }
-    ensures { λ _. ⌜ Joined row other (now (others .entry)) (now (words .entry)) (now (words .exit)) ⌝ }
-{
-    let all = &mut words[..];
-    let theirs = &others[..];
-    let to = row * 8;
-    let from = other * 8;
-    let mut w: usize = 0;
-    while w < 8 {
-        all[to + w] |= theirs[from + w];
-        w += 1;
-    }
-}
-
-// The lowest mark, or 512.
-fn lowest_mark(words: &[u64; 8]) -> usize
-    ensures { λ r. ⌜ (r ≤ 512) × LowestMark (now (words .entry)) r ⌝ }
-{
-    let all = &words[..];
-    let mut w: usize = 0;
-    while w < 8 {
-        let word = all[w];
-        if word != 0 {
-            return w * 64 + u64::trailing_zeros(word) as usize;
-        }
-        w += 1;
-    }
-    512
 }
 
 // The highest mark that the row of `rows` and the set have both, or 512: the job that is placed last of those waited for, mostly, as the lowest go first.
@@ -84,28 +52,6 @@ fn common_mark(rows: &[u64; 4096], row: usize, words: &[u64; 8]) -> usize
 
 // ---- who precedes whom
 
-// A job gains what the rows have that a step at this row looks at.
-fn join_before(preds: &mut [u64; 4096], job: usize, seen: &[u64; 6160], row: usize)
-    requires { ⌜ (job < 512) × (row < 770) ⌝ }
-    ensures { λ _. ⌜ Gained job row (now (seen .entry)) (now (preds .entry)) (now (preds .exit)) ⌝ }
-{
-    if row < 768 {
-        let cell = row % 256;
-        if 256 <= row {
-            join(preds, job, seen, cell);
-        }
-        join(preds, job, seen, cell + 256);
-        if row < 512 {
-            join(preds, job, seen, cell + 512);
-        }
-        return;
-    }
-    if row != 768 {
-        return;
-    }
-    join(preds, job, seen, 769);
-}
-
 // The predecessors of each job, from the first n records.
 fn gather(told: &[u32; 4096], n: usize, states: &[u8; 512], preds: &mut [u64; 4096])
     requires { ⌜ n ≤ 4096 ⌝ }
@@ -121,7 +67,7 @@ fn gather(told: &[u32; 4096], n: usize, states: &[u8; 512], preds: &mut [u64; 40
             let job = ((step - 1) / 770 % 512) as usize;
             let row = ((step - 1) % 770) as usize;
             if stand[job] != 4 {
-                join_before(preds, job, &seen, row);
+                jobsets::join_before(preds, job, &seen, row);
                 put_mark(&mut seen, row * 512 + job);
                 strike_mark(preds, job * 512 + job);
             }
@@ -261,7 +207,7 @@ fn list_jobs(
     sort(preds, left, &mut ready, &mut waiting);
     let mut n: usize = 0;
     while n < jobs {
-        let job = lowest_mark(&ready);
+        let job = jobsets::lowest_mark(&ready);
         if job == 512 {
             return;
         }

@@ -14,7 +14,7 @@ use lib.ListN.{length, drop, getElem?}
 use Rattle.graph.specs.Decide.{or-test, not-test, eq-test, lt-test, test-true, test-false}
 use Rattle.history.specs.Events.{History, opened}
 use Rattle.history.specs.Formats.{records}
-use Rattle.history.specs.RecordLaws.{drop-record, drop-none, record-none}
+use Rattle.history_laws.specs.RecordLaws.{drop-record, drop-none, record-none}
 use Rattle.history.specs.Replies.{Request, want, event-of}
 use Rattle.verdicts.specs.Logs.{record-bytes, most-bytes, most-jobs, fault-of, Reading, faulty, events, read-from, read-log}
 use Rattle.tallies.specs.Jobs.{Padded, Taken, Takes}

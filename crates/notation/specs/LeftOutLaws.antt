@@ -14,8 +14,8 @@ use Rattle.graph.specs.Decide.{not-test, true-is}
 use Rattle.graph.specs.Lists.{_∈_, here, later, only, only-yes, only-no, only-append, only-keeps, only-from, only-all, only-length}
 use Rattle.history.specs.Events.{read, write, add, Event, opens, steps, ends, abandons, History, gather, opened-by, ended-by, abandoned-by, has, opened, ended, abandoned, open-now}
 use Rattle.history.specs.Turns.{InTurn, InTurnAfter, Turns}
-use Rattle.history.specs.TurnLaws.{has-test, kept-from, kept-if, open-from, open-if}
-use Rattle.verdicts.specs.LogLaws.{Sized, small-first}
+use Rattle.history_laws.specs.TurnLaws.{has-test, kept-from, kept-if, open-from, open-if}
+use Rattle.verdicts_laws.specs.LogLaws.{Sized, small-first}
 use Rattle.notation.specs.Notation.{Sayable, job-in, without-abandoned}
 
 -- ---- the events of some jobs, by any test of jobs

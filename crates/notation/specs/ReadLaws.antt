@@ -13,12 +13,12 @@ use Rattle.graph.specs.Decide.{or-test, not-test, eq-test, le-test, answer, tes
 use Rattle.graph.specs.Lists.{_∈_, here, later, each}
 use Rattle.history.specs.Events.{read, write, add, Event, opens, steps, ends, abandons, History, gather, opened-by, opened}
 use Rattle.history.specs.Formats.{records}
-use Rattle.history.specs.Granted.{passed}
+use Rattle.history_laws.specs.Granted.{passed}
 use Rattle.history.specs.Replies.{cells, numbers, Request, Want, an-open, a-step, an-end, an-abandon, a-publish, nothing, want, event-of}
-use Rattle.history.specs.TurnLaws.{gather-append}
+use Rattle.history_laws.specs.TurnLaws.{gather-append}
 use Rattle.verdicts.specs.Logs.{record-bytes, most-bytes, ill-formed, fault-of, Reading, faulty, events, read-from, read-log, fields, record-of, log-of}
-use Rattle.verdicts.specs.LogLaws.{request-for, read-fields, event-for, log-append, Sized}
-use Rattle.verdicts.specs.SizeLaws.{log-size}
+use Rattle.verdicts_laws.specs.LogLaws.{request-for, read-fields, event-for, log-append, Sized}
+use Rattle.verdicts_laws.specs.SizeLaws.{log-size}
 use Rattle.blocks.specs.WordLaws.{bytes-of-word}
 use Rattle.notation.specs.Notation.{Sayable}
 use Rattle.notation.specs.Answers.{Bytes}

@@ -14,9 +14,9 @@ use Rattle.text.specs.Decimal.{decimal}
 use Rattle.text.specs.DecimalLaws.{leading-length}
 use Rattle.history.specs.Events.{read, write, add, Event, opens, steps, ends, abandons, History}
 use Rattle.verdicts.specs.Logs.{Reading, faulty, events, read-log, log-of}
-use Rattle.verdicts.specs.LogLaws.{Fault, of-length, of-record, faults, read-turns, read-back, log-length}
+use Rattle.verdicts_laws.specs.LogLaws.{Fault, of-length, of-record, faults, read-turns, read-back, log-length}
 use Rattle.verdicts.specs.Cases.{bytes-above}
-use Rattle.verdicts.specs.SizeLaws.{log-size, fault-code, fault-known}
+use Rattle.verdicts_laws.specs.SizeLaws.{log-size, fault-code, fault-known}
 use Rattle.blocks.specs.Blocks.{Filled, refused, done, filled}
 use Rattle.blocks.specs.RunLaws.{fills, fills-not}
 use Rattle.notation.specs.Notation.{on-cell, symbol, text-of, Says, Form, Wrong, no-such-byte, stops-short, without-abandoned, NoAdd, FirstAdd}

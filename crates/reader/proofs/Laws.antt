@@ -9,7 +9,7 @@ use lib.ListN.{length, getD, getElem?}
 use lib.Seq.{getD-drop}
 use Rattle.history.specs.Formats.{records, request-of}
 use Rattle.history.specs.Replies.{Request}
-use Rattle.history.specs.RecordLaws.{record-there}
+use Rattle.history_laws.specs.RecordLaws.{record-there}
 
 pub record-read : (bytes : List ℕ) (n : ℕ) {cell job : ℕ} → n < length bytes / 8
     → cell ≡ getD bytes (n * 8 + 2) 0 + getD bytes (n * 8 + 3) 0 * 256

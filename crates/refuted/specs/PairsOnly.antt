@@ -9,7 +9,7 @@ use Rattle.graph.specs.Decide.{some-of}
 use Rattle.history.specs.Events.{read, write, opens, steps, History, Step, all-steps, kept-steps}
 use Rattle.history.specs.Orders.{layout}
 use Rattle.history.specs.Run.{Program, Raise, put, act-as, run, start, writes-at, last-write, adds-by, adds-at, is-none, adds-since, SameSteps, SameSources}
-use Rattle.history.specs.Promises.{AsTheLog}
+use Rattle.history_laws.specs.Promises.{AsTheLog}
 use Rattle.verdicts.specs.Logs.{events, read-log}
 use Rattle.verdicts.specs.Verdicts.{verdict, check, refused, list-order}
 use Rattle.verdicts.specs.Cases.{log, overwritten, checked, answered}

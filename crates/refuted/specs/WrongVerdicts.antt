@@ -20,7 +20,7 @@ use Rattle.history.specs.Cases.{reads, p1, p3, rows}
 use Rattle.verdicts.specs.Logs.{events, read-log}
 use Rattle.verdicts.specs.Verdicts.{Verdict, verdict, check, Listed, list-order}
 use Rattle.verdicts.specs.Cases.{opens, raw, log, log-after, log-a, checked, answered}
-use Rattle.verdicts.specs.VerdictLaws.{Checked, log-faulty, log-read, Judged, bad-entry, job-missing, pair-turned, accepted, Answered, checked-only, answered-only}
+use Rattle.verdicts_laws.specs.VerdictLaws.{Checked, log-faulty, log-read, Judged, bad-entry, job-missing, pair-turned, accepted, Answered, checked-only, answered-only}
 
 abbrev pub Checker : Type 0
 Checker = List ℕ → List ℕ → Verdict

@@ -1,34 +1,29 @@
--- What the proofs of the second profile's requests need beyond the contracts of the functions that they call: a law for each way out of a read, of a publish and of each
+-- What the proofs of the second profile's requests need beyond the contracts of the functions that they call: a law for each way out of a publish and for each
 -- arm of a request (`lates-..`), as RequestLaws has them for the first profile.
 -- Assumes nothing.
-use mathlib.Core.Path.{_≡_, refl, sym, ap, ap₂, _∙_, subst}
-use mathlib.Core.Bool.{Bool, true, false, not, _&&_, cond}
+use mathlib.Core.Path.{_≡_, refl, sym, ap, _∙_, subst, subst₂}
+use mathlib.Core.Bool.{Bool, true, false, not, cond}
 use mathlib.Core.Option.{Option}
-use mathlib.Core.List.{List}
-use Prim.Native.Nat.{ℕ, _-_, _*_, _%_, _^_, _≤_, _<_}
+use mathlib.Core.List.{List, [], _∷_}
+use Prim.Native.Nat.{ℕ, _%_, _≤_}
 use native.Mathlib.Nat.{mod-eq-of-lt}
-use lib.Bits.{bitOr, bitAnd}
-use lib.Dec.{leb, eqb}
+use lib.Dec.{eqb}
 use lib.ListN.{getD}
-use borrow.Author.Tests.{le-leb, lt-leb, eq-eqb, ne-eqb}
-use Rattle.graph.specs.Decide.{some-of}
+use borrow.Author.Tests.{eq-eqb, ne-eqb}
 use Rattle.marks.specs.Marks.{bit, mask-of}
-use Rattle.marks.specs.MarkLaws.{bit-others}
-use Rattle.marks.specs.MaskLaws.{bit-of}
 use Rattle.history.specs.Events.{read, write}
 use Rattle.history.specs.Formats.{request-of}
-use Rattle.history.specs.Replies.{Request, Reply, an-open, a-step, an-abandon, want, tests, code-of, job-of, reply-of}
+use Rattle.history.specs.Replies.{Request, Reply, an-open, an-abandon, want, tests, code-of, job-of, reply-of}
 use Rattle.held.specs.Held.{Held, is-some, at-slot, with-slot, open-at, leads-at, word-at, cell-at, slot-of, touched, facts, stepped-at, ended-at, moved}
 use Rattle.late.specs.Late.{asks, publishes, named, late-kind, in-profile, untested, publish-code, publish-answer}
 use Rattle.late.specs.LateHeld.{put-down, leads-back, held-code, late-answer, late-next}
-use Rattle.slots.specs.Lent.{lent, numbered, code-for, reading, Does, Lates}
-use Rattle.slots.specs.Rows.{holds, touches, meets-some, gained, marked-own, joined-own}
+use Rattle.rows.specs.Rows.{rows-of, links-of, Writes}
+use Rattle.slots.specs.Lent.{lent, numbered, code-for, Does, code-asked, Asks, Lates}
+use Rattle.slots.specs.Finds.{holds}
 use Rattle.slots.specs.declared.Answer.{Answer}
-use Rattle.slots.specs.declared.Answer.the-variants.{Granted, Malformed, NoCell, NotOpen, Circle}
-use Rattle.slots.specs.declared.JobNumber.{JobNumber}
+use Rattle.slots.specs.declared.Answer.the-variants.{Malformed, NotOpen, Circle}
 use Rattle.slots.specs.declared.Moved.{Moved}
-use Rattle.slots.proofs.RequestLaws.{slot, Refused, Found, slot-none, gained-by, lent-same}
-use Rattle.slots.proofs.PublishLaws.{Cells, publish-ends, back-law}
+use Rattle.slots.proofs.RequestLaws.{slot, Refused, Grants, Found, slot-none, lent-same, ended-with}
 
 -- ---- a request
 
@@ -47,31 +42,6 @@ lates-by {h} q n e a l = record { answered = a ∙ ap (reply-at h q) (sym e); le
 lates-refused : {h : Held} {r : Moved} {a : Answer} (q : Request) (n : ℕ) → code-of (untested (facts h)) (in-profile q) ≡ n → numbered a ≡ reply-at h q n → h ≡ state-at h q n → Refused h a r
     → Lates h (asks q) r (h .numbers) (h .leads) (h .sets)
 lates-refused q n e a l f = lates-by q n e (ap numbered (f .2) ∙ a) (lent-same (f .0) (f .1) refl refl refl ∙ l)
-
--- ---- a read
-
-code-read : {a : Bool} {o : Option ℕ} (h : Held) (j c : ℕ) → leb 256 c ≡ a → slot-of h j ≡ o → code-of (untested (facts h)) (in-profile (reading j c)) ≡ cond a 2 (cond (not (is-some o)) 3 0)
-unfolding code-of want tests facts
-code-read h j c = ap₂ (λ (a : Bool) (o : Option ℕ). cond a 2 (cond (not (is-some o)) 3 0))
-
-module _ {h : Held} {j c : ℕ} where
-  pub lates-read-no-cell : {r : Moved} → 256 ≤ c → Refused h NoCell r → Lates h (asks (reading j c)) r (h .numbers) (h .leads) (h .sets)
-  lates-read-no-cell q = lates-refused (reading j c) 2 (code-read h j c (le-leb 256 c q) refl) refl refl
-
-  pub lates-read-not-open : {r : Moved} {s : ℕ} → s ≡ slot (mask-of 32 (holds (h .free) (h .numbers) j)) → 32 ≤ s → c < 256 → Refused h NotOpen r
-      → Lates h (asks (reading j c)) r (h .numbers) (h .leads) (h .sets)
-  lates-read-not-open e z q = lates-refused (reading j c) 3 (code-read h j c (lt-leb 256 c q) (slot-none h j e z)) refl refl
-
-  pub lates-read-granted : {s into-s : ℕ} {job : JobNumber} {leads sets : List ℕ} → Found h j s → c < 256 → job .0 ≡ j
-      → into-s ≡ mask-of 32 (touches (h .free) (h .sets) read s (c % 256)) → leads ≡ gained (h .leads) (bit into-s) (2 ^ s) → sets ≡ marked-own (h .sets) s read (c % 256)
-      → Lates h (asks (reading j c)) (record { next = h .next; free = h .free; answer = Granted job }) (h .numbers) leads sets
-  unfolding want moved stepped-at open-at leads-at touched cell-at word-at job-of
-  lates-read-granted {s} f q n et el es =
-      lates-by (reading j c) 0 (code-read h j c (lt-leb 256 c q) (f .first)) (λ i. record { code = 0; job = n i })
-      (lent-same refl refl refl
-      (el ∙ gained-by (h .leads) (touches (h .free) (h .sets) read s c) (2 ^ s) (et ∙ ap (λ (x : ℕ). mask-of 32 (touches (h .free) (h .sets) read s x)) (mod-eq-of-lt q)))
-      (es ∙ ap (marked-own (h .sets) s read) (mod-eq-of-lt q))
-      ∙ ap (λ (o : Option ℕ). with-slot o (λ s. stepped-at h read s c) h) (sym (f .first)))
 
 -- ---- a request of eight bytes
 
@@ -103,9 +73,10 @@ module _ {h : Held} {r : Moved} (b : List ℕ) where
       unfolding late-answer late-next reply-of code-of want tests code-for facts job-of moved
       lates-open k d = as-kind k (record { answered = d .answered; left = d .left })
 
-      pub lates-read : {j c : ℕ} → getD b 0 0 ≡ 2 → j ≡ request-of b .job → c ≡ request-of b .cell → Lates h (asks (reading j c)) r numbers leads sets
+      pub lates-read : {j c : ℕ} → getD b 0 0 ≡ 2 → j ≡ request-of b .job → c ≡ request-of b .cell → Asks h false read j c r numbers leads sets
           → Lates h (asks (request-of b)) r numbers leads sets
-      lates-read k ej ec d = as-kind k (subst (λ (q : Request). Lates h (asks q) r numbers leads sets) (λ i. reading (ej i) (ec i)) d)
+      unfolding late-answer late-next reply-of code-of want tests code-asked facts job-of moved
+      lates-read k ej ec d = as-kind k (let e = subst₂ (λ (j c : ℕ). Asks h false read j c r numbers leads sets) ej ec d in record { answered = e .answered; left = e .left })
 
       pub lates-abandon : {j : ℕ} → getD b 0 0 ≡ 5 → j ≡ request-of b .job → Does h an-abandon j 0 r numbers leads sets → Lates h (asks (request-of b)) r numbers leads sets
       unfolding late-answer late-next reply-of code-of want tests code-for facts job-of moved
@@ -130,33 +101,43 @@ pub lates-publish-not-open : {h : Held} {j : ℕ} {ws : List ℕ} {r : Moved} {s
     → Lates h (publishes j ws) r (h .numbers) (h .leads) (h .sets)
 lates-publish-not-open {h} {j} {ws} e z f = publishes-by 3 (code-publish h j (named ws) (slot-none h j e z) refl) (ap numbered (f .2)) (lent-same (f .0) (f .1) refl refl refl)
 
--- what it has looked up before it tests: the slot, and who comes to lead to it
-pub record Gathered (h : Held) (j : ℕ) (ws : List ℕ) (s touching : ℕ) : Type 0 where
-  pub fits : h .free < 2 ^ 32
-  pub found : Found h j s
-  pub gathered : touching ≡ mask-of 32 (λ i. bit (2 ^ 32 - 1 - h .free) i && meets-some (h .sets) s ws i)
+-- the writes look at no number, and change none
+down-with : (next free : ℕ) (numbers leads sets : List ℕ) (s : ℕ) (cs : List ℕ)
+    → let d = put-down (links-of free leads sets) s cs in put-down (lent next free numbers leads sets) s cs ≡ lent next (d .free) numbers (d .leads) (d .sets)
+unfolding stepped-at open-at leads-at touched cell-at word-at
+down-with next free numbers leads sets s [] = refl
+down-with next free numbers leads sets s (c ∷ cs) =
+    let t = stepped-at (links-of free leads sets) write s c in down-with next free numbers (t .leads) (t .sets) s cs
 
--- what it tests then
-abbrev pub back-code : Held → ℕ → ℕ → ℕ
-back-code h s touching = bitAnd (bitOr (getD (h .leads) s 0) touching) (1 * 2 ^ s % 4294967296)
+-- what `write_set` has written, at the slot as it is
+module _ {h : Held} {j s : ℕ} {b : Bool} {leads₁ sets₁ : List ℕ} (ws : List ℕ) (f : Found h j s)
+    (t : Writes (links-of (h .free) (h .leads) (h .sets)) (s % 32) (named ws) b leads₁ sets₁) where
+  abbrev links : Held
+  links = links-of (h .free) (h .leads) (h .sets)
 
-module _ {h : Held} {j : ℕ} {ws : List ℕ} {s touching : ℕ} (g : Gathered h j ws s touching) where
-  meeting : (i : ℕ) → i < 32 → bit touching i ≡ open-at h i && some-of (λ c. touched h write s c i) (named ws)
-  unfolding open-at touched cell-at word-at
-  meeting i q =
-      bit-of 32 (λ i. bit (2 ^ 32 - 1 - h .free) i && meets-some (h .sets) s ws i) (g .gathered) i q
-      ∙ ap (λ (b : Bool). b && meets-some (h .sets) s ws i) (bit-others 32 (h .free) i (g .fits) q)
+  wrote : Writes links s (named ws) b leads₁ sets₁
+  wrote = subst (λ (s : ℕ). Writes links s (named ws) b leads₁ sets₁) (mod-eq-of-lt (f .inside)) t
 
-  tested-code : {b : Bool} → not (eqb (back-code h s touching) 0) ≡ b → held-code h j (named ws) ≡ cond b 7 0
-  tested-code e = code-publish h j (named ws) (g .found .first) (back-law ws touching h s (g .found .inside) meeting ∙ e)
+  down : put-down h s (named ws) ≡ lent (h .next) (put-down links s (named ws) .free) (h .numbers) (put-down links s (named ws) .leads) (put-down links s (named ws) .sets)
+  down = down-with (h .next) (h .free) (h .numbers) (h .leads) (h .sets) s (named ws)
 
-  pub lates-publish-circle : {r : Moved} → (back-code h s touching ≡ 0 → ⊥) → Refused h Circle r → Lates h (publishes j ws) r (h .numbers) (h .leads) (h .sets)
-  lates-publish-circle n f = publishes-by 7 (tested-code (ap not (ne-eqb (back-code h s touching) 0 n))) (ap numbered (f .2)) (lent-same (f .0) (f .1) refl refl refl)
+  wrote-code : {x : Bool} → b ≡ x → held-code h j (named ws) ≡ cond x 7 0
+  unfolding leads-back leads-at
+  wrote-code e = code-publish h j (named ws) (f .first) (ap (λ (x : Held). bit (getD (x .leads) s 0) s) down ∙ sym (wrote .told) ∙ e)
 
-  pub lates-publish-granted : {r : Moved} {leads₁ sets₁ numbers leads sets : List ℕ} → Cells ws → back-code h s touching ≡ 0
-      → leads₁ ≡ gained (h .leads) (bit touching) (2 ^ s) → sets₁ ≡ joined-own (h .sets) s ws
-      → (numbered (r .answer) ≡ record { code = 0; job = j }) × (lent (r .next) (r .free) numbers leads sets ≡ ended-at (lent (h .next) (h .free) (h .numbers) leads₁ sets₁) s)
-      → Lates h (publishes j ws) r numbers leads sets
-  lates-publish-granted v e el es l =
-      publishes-by 0 (tested-code (ap not (eq-eqb (back-code h s touching) 0 e))) (l .0)
-      (l .1 ∙ publish-ends touching h s (g .found .inside) v meeting el es ∙ ap (λ (o : Option ℕ). with-slot o (λ s. ended-at (put-down h s (named ws)) s) h) (sym (g .found .first)))
+  wrote-left : {x : Bool} → b ≡ x → links-of (h .free) leads₁ sets₁ ≡ cond x links (put-down links s (named ws))
+  wrote-left e = wrote .left ∙ ap (λ (x : Bool). cond x links (put-down links s (named ws))) e
+
+  pub lates-publish-circle : {r : Moved} → b ≡ true → Refused h Circle r → Lates h (publishes j ws) r (h .numbers) leads₁ sets₁
+  lates-publish-circle e r =
+      let l = wrote-left e in
+      publishes-by 7 (wrote-code e) (ap numbered (r .2)) (lent-same (r .0) (r .1) refl (λ i. l i .leads) (λ i. l i .sets))
+
+  pub lates-publish-granted : {r : Moved} {left : ℕ} {numbers leads sets : List ℕ} → b ≡ false
+      → rows-of left numbers leads sets ≡ ended-at (rows-of (h .free) (h .numbers) leads₁ sets₁) (s % 32) → Grants (h .next) left j r → Lates h (publishes j ws) r numbers leads sets
+  lates-publish-granted e ends g =
+      let l = wrote-left e in
+      publishes-by 0 (wrote-code e) (g .2)
+      (lent-same (g .0) (g .1) refl refl refl ∙ ended-with (h .next) (h .free) (h .numbers) leads₁ sets₁ (f .inside) ends
+      ∙ ap (λ (x : Held). ended-at x s) ((λ i. lent (h .next) (l i .free) (h .numbers) (l i .leads) (l i .sets)) ∙ sym down)
+      ∙ ap (λ (o : Option ℕ). with-slot o (λ s. ended-at (put-down h s (named ws)) s) h) (sym (f .first)))

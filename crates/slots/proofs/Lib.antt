@@ -1,8 +1,5 @@
 pub mod SearchLaws
-pub mod SetLaws
-pub mod ClashLaws
-pub mod PastLaws
+pub mod CircleLaws
 pub mod RequestLaws
-pub mod PublishLaws
 pub mod LateRequests
 pub mod OneAnswer

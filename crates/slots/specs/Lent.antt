@@ -1,29 +1,23 @@
 -- What the contracts of slots and arbiter say: the state that lent lists make, the reply that an answer is, and what a step leaves, by the rule of the crate held.
 -- Assumes nothing.
 use mathlib.Core.Path.{_≡_}
-use mathlib.Core.Bool.{cond}
-use mathlib.Core.List.{List, []}
+use mathlib.Core.Bool.{Bool, cond}
+use mathlib.Core.List.{List}
 use Prim.Native.Nat.{ℕ}
 use lib.Dec.{eqb}
-use Rattle.history.specs.Events.{Kind, read, write, add}
-use Rattle.history.specs.Replies.{Request, Reply, Want, first-of, tests, job-of}
+use Rattle.history.specs.Events.{Kind}
+use Rattle.history.specs.Replies.{Request, Reply, Want, a-step, first-of, tests, job-of}
 use Rattle.held.specs.Held.{Held, facts, moved, answer-to, after}
-use Rattle.late.specs.Late.{Ask}
+use Rattle.late.specs.Late.{Ask, untested}
 use Rattle.late.specs.LateHeld.{late-answer, late-next}
 use Rattle.slots.specs.declared.JobNumber.{JobNumber}
 use Rattle.slots.specs.declared.Answer.{Answer}
 use Rattle.slots.specs.declared.Answer.the-variants.{Granted, Malformed, NoCell, NotOpen, HasWritten, Full, Spent, Circle}
 use Rattle.slots.specs.declared.Moved.{Moved}
-use Rattle.slots.specs.declared.Deed.{Deed}
-use Rattle.slots.specs.declared.Deed.the-variants.{Read, Write, Add}
 
 -- the state whose arrays are lent
 abbrev pub lent : ℕ → ℕ → List ℕ → List ℕ → List ℕ → Held
 lent next free numbers leads sets = record { next = next; free = free; numbers = numbers; leads = leads; sets = sets }
-
--- a state of which only the sets matter
-abbrev pub sets-only : List ℕ → Held
-sets-only sets = lent 0 0 [] [] sets
 
 -- document 01's code and job number of each answer
 abbrev pub numbered : Answer → Reply
@@ -36,29 +30,31 @@ numbered Full = record { code = 5; job = 0 }
 numbered Spent = record { code = 6; job = 0 }
 numbered Circle = record { code = 7; job = 0 }
 
--- the kind of step that a deed is
-abbrev pub kind-of : Deed → Kind
-kind-of Read = read
-kind-of Write = write
-kind-of Add = add
+-- what a well-formed request for w leaves that gets code n: the reply, and the state moved by a grant
+pub record Gets (n : ℕ) (h : Held) (w : Want) (j c : ℕ) (r : Moved) (numbers leads sets : List ℕ) : Type 0 where
+  pub answered : numbered (r .answer) ≡ record { code = n; job = cond (eqb n 0) (job-of (h .next) w j) 0 }
+  pub left : lent (r .next) (r .free) numbers leads sets ≡ cond (eqb n 0) (moved h w j c) h
 
--- what a well-formed request for w leaves: the reply that the tests give, and the state moved by a grant
+-- by the code that the tests give
 unfoldable pub code-for : Held → Want → ℕ → ℕ → ℕ
 code-for h w j c = first-of (tests (facts h) w j c)
 
-pub record Does (h : Held) (w : Want) (j c : ℕ) (r : Moved) (numbers leads sets : List ℕ) : Type 0 where
-  pub answered : numbered (r .answer) ≡ record { code = code-for h w j c; job = cond (eqb (code-for h w j c) 0) (job-of (h .next) w j) 0 }
-  pub left : lent (r .next) (r .free) numbers leads sets ≡ cond (eqb (code-for h w j c) 0) (moved h w j c) h
+abbrev pub Does : Held → Want → ℕ → ℕ → Moved → List ℕ → List ℕ → List ℕ → Type 0
+Does h w j c r numbers leads sets = Gets (code-for h w j c) h w j c r numbers leads sets
+
+-- a step, that is tested for a circle where it is asked: in the second profile it is not
+unfoldable pub code-asked : Held → Bool → Kind → ℕ → ℕ → ℕ
+code-asked h asked k j c = first-of (tests (cond asked (facts h) (untested (facts h))) (a-step k) j c)
+
+abbrev pub Asks : Held → Bool → Kind → ℕ → ℕ → Moved → List ℕ → List ℕ → List ℕ → Type 0
+Asks h asked k j c r numbers leads sets = Gets (code-asked h asked k j c) h (a-step k) j c r numbers leads sets
 
 -- what a request leaves
 pub record Steps (h : Held) (q : Request) (r : Moved) (numbers leads sets : List ℕ) : Type 0 where
   pub answered : numbered (r .answer) ≡ answer-to h q
   pub left : lent (r .next) (r .free) numbers leads sets ≡ after h q
 
--- what is asked in the second profile leaves, by the rule of the crate late; and a read, as it is asked there
+-- what is asked in the second profile leaves, by the rule of the crate late
 pub record Lates (h : Held) (a : Ask) (r : Moved) (numbers leads sets : List ℕ) : Type 0 where
   pub answered : numbered (r .answer) ≡ late-answer h a
   pub left : lent (r .next) (r .free) numbers leads sets ≡ late-next h a
-
-abbrev pub reading : ℕ → ℕ → Request
-reading j c = record { kind = 2; byte1 = 0; cell = c; job = j }

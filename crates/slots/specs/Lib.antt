@@ -1,2 +1,2 @@
 pub mod Lent
-pub mod Rows
+pub mod Finds

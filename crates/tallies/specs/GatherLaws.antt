@@ -14,7 +14,7 @@ use Rattle.graph.specs.Decide.{Decides, and-test, or-test, not-test, eq-test, l
 use Rattle.graph.specs.Lists.{_∈_, here, before-nil, before-cons, before-in-left, before-across, before-append}
 use Rattle.marks.specs.WordLaws.{marked-none}
 use Rattle.history.specs.Events.{Deed, clash, History, opened, Step, kept-steps, Precedes}
-use Rattle.history.specs.EventLaws.{precedes-in, no-self, precedes-test}
+use Rattle.history_laws.specs.EventLaws.{precedes-in, no-self, precedes-test}
 use Rattle.tallies.specs.Jobs.{room, row-of, looked, Taken}
 use Rattle.tallies.specs.Marks.{in-row, Put, Struck, Joined, Gained, Preceded}
 use Rattle.tallies.specs.RowLaws.{row-small, row-apart, looked-step, looked-opening, looked-ending, looked-test}

@@ -11,7 +11,7 @@ use lib.Seq.{take-all}
 use Rattle.graph.specs.Decide.{Decides, not-test, test-true, test-false}
 use Rattle.graph.specs.Lists.{_∈_, only}
 use Rattle.history.specs.Events.{History, has, opened, abandoned, kept}
-use Rattle.history.specs.TurnLaws.{has-test}
+use Rattle.history_laws.specs.TurnLaws.{has-test}
 use Rattle.tallies.specs.Jobs.{Jobs}
 use Rattle.tallies.specs.Marks.{Put, KeptMarks}
 use Rattle.tallies.specs.TableLaws.{status-gone}

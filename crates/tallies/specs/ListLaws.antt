@@ -20,12 +20,12 @@ use Rattle.graph.specs.Walk.{one}
 use Rattle.graph.specs.Listing.{Ready, LowestFirst, done, next}
 use Rattle.graph.specs.ListingLaws.{stuck}
 use Rattle.history.specs.Events.{History, opened, abandoned, kept, kept-steps, Precedes, Circular}
-use Rattle.history.specs.EventLaws.{precedes-test}
+use Rattle.history_laws.specs.EventLaws.{precedes-test}
 use Rattle.history.specs.Orders.{order-of}
-use Rattle.history.specs.OrderLaws.{lowest-order, order-accepted, accepted-no-circle}
+use Rattle.history_laws.specs.OrderLaws.{lowest-order, order-accepted, accepted-no-circle}
 use Rattle.history.specs.Turns.{Turns}
-use Rattle.history.specs.TurnLaws.{has-test, kept-from, kept-if}
-use Rattle.verdicts.specs.VerdictLaws.{missing-test, kept-once}
+use Rattle.history_laws.specs.TurnLaws.{has-test, kept-from, kept-if}
+use Rattle.verdicts_laws.specs.VerdictLaws.{missing-test, kept-once}
 use Rattle.tallies.specs.Jobs.{Jobs}
 use Rattle.tallies.specs.Marks.{mark, in-row, Struck, LowestMark, Preceded, KeptMarks, Sorted}
 use Rattle.tallies.specs.Places.{Placed, Lists}

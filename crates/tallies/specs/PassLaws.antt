@@ -14,7 +14,7 @@ use lib.ListN.{length, getD}
 use Rattle.graph.specs.Decide.{not-test, test-true, test-false}
 use Rattle.graph.specs.Lists.{_∈_, only, only-yes, only-no}
 use Rattle.history.specs.Events.{Deed, does, opening, ending, Event, opens, steps, ends, abandons, History, has, opened, abandoned, Step, step-at, step-by, steps-from, all-steps, kept-steps}
-use Rattle.history.specs.TurnLaws.{has-test}
+use Rattle.history_laws.specs.TurnLaws.{has-test}
 use Rattle.tallies.specs.Jobs.{status, room, row-of, packed-step, Packs, Told, Taken}
 use Rattle.tallies.specs.RowLaws.{row-small}
 use Rattle.tallies.specs.TableLaws.{status-gone}

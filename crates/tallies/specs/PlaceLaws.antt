@@ -16,9 +16,9 @@ use lib.Seq.{take-suc, take-all, take-length, drop-cons, drop-length, length-tak
 use Rattle.graph.specs.Decide.{Decides, eq-test, not-test, or-test, by-test, answer, test-true, test-false}
 use Rattle.graph.specs.Lists.{_∈_, later, only, only-append}
 use Rattle.history.specs.Events.{History, has, opened, abandoned, kept}
-use Rattle.history.specs.TurnLaws.{has-test}
+use Rattle.history_laws.specs.TurnLaws.{has-test}
 use Rattle.verdicts.specs.Verdicts.{first-bad, missing}
-use Rattle.verdicts.specs.VerdictLaws.{missing-test}
+use Rattle.verdicts_laws.specs.VerdictLaws.{missing-test}
 use Rattle.tallies.specs.Jobs.{status, Jobs, Finds}
 use Rattle.tallies.specs.Places.{one-on, place-in, Placed, found-at}
 use Rattle.tallies.specs.TableLaws.{same-entry, found-opened, not-found, found-state, at-member, status-gone, status-kept, kept-status}

@@ -10,9 +10,9 @@ use borrow.Author.Tests.{lt-ltb, le-ltb, le-leb, lt-leb, ne-eqb}
 use lib.Dec.{T, leb, ltb}
 use Rattle.graph.specs.Decide.{Decides, own-test, read-as}
 use Rattle.history.specs.Events.{read, write, add, Deed, does, opening, ending, clash}
-use Rattle.history.specs.EventLaws.{Clashing, as-steps, in-time, clash-parts}
+use Rattle.history_laws.specs.EventLaws.{Clashing, as-steps, in-time, clash-parts}
 use Rattle.history.specs.Memory.{meets}
-use Rattle.history.specs.MemoryLaws.{Meets, meets-test}
+use Rattle.history_laws.specs.MemoryLaws.{Meets, meets-test}
 use Rattle.tallies.specs.Jobs.{room, row-of, looked}
 
 -- ---- each has its own

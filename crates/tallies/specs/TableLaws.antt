@@ -12,7 +12,7 @@ use Rattle.graph.specs.Decide.{Decides, own-test, lt-test, by-test, answer}
 use Rattle.graph.specs.Lists.{_∈_, here, later, Before, first, after}
 use Rattle.history.specs.Events.{History, opened, ended, abandoned, open-now, kept, wrote}
 use Rattle.history.specs.Turns.{Turns}
-use Rattle.history.specs.TurnLaws.{has-test, kept-from, kept-if, open-from, open-if, open-not-abandoned, orderly}
+use Rattle.history_laws.specs.TurnLaws.{has-test, kept-from, kept-if, open-from, open-if, open-not-abandoned, orderly}
 use Rattle.tallies.specs.Jobs.{status, Jobs, Rises}
 
 -- ---- entries and members of a list

@@ -17,7 +17,7 @@ use Rattle.graph.specs.Lists.{_∈_, here}
 use Rattle.history.specs.Events.{Kind, read, write, add, alters, Deed, does, opening, ending, alters-by, Event, opens, steps, ends, abandons, History, ended-by, abandoned-by, has, opened, ended, abandoned, open-now, Step, step-at, step-by, all-steps, wrote}
 use Rattle.history.specs.Replies.{cells, Request, Want, an-open, a-step, an-end, an-abandon, a-publish, nothing, want, event-of}
 use Rattle.history.specs.Turns.{InTurn}
-use Rattle.history.specs.TurnLaws.{Grows, which-in, old-in, new-in, stays, opened-grows, ended-grows, abandoned-grows, all-steps-grows, has-test, open-from, open-opened, open-not-abandoned, orderly, turns-next}
+use Rattle.history_laws.specs.TurnLaws.{Grows, which-in, old-in, new-in, stays, opened-grows, ended-grows, abandoned-grows, all-steps-grows, has-test, open-from, open-opened, open-not-abandoned, orderly, turns-next}
 use Rattle.verdicts.specs.Logs.{most-jobs, ill-formed, out-of-turn, too-many, fault-of, kind-number}
 use Rattle.tallies.specs.Jobs.{status, Padded, Jobs, Finds, room, first-row, packed-step, Packs, Tells, Told, Taken, Takes}
 use Rattle.tallies.specs.PadLaws.{padded-set, padded-more}

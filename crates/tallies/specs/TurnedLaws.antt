@@ -17,10 +17,10 @@ use Rattle.graph.specs.Decide.{Decides, and-test, or-test, eq-test, lt-test, re
 use Rattle.graph.specs.Lists.{_∈_, later, each, other, Before, first, after, Once, none, more, members, before-left, before-right}
 use Rattle.history.specs.Events.{Deed, clash, History, opened, kept, Step, kept-steps}
 use Rattle.history.specs.Memory.{same-deed}
-use Rattle.history.specs.MemoryLaws.{deed-test}
-use Rattle.history.specs.TurnLaws.{has-test, kept-if}
+use Rattle.history_laws.specs.MemoryLaws.{deed-test}
+use Rattle.history_laws.specs.TurnLaws.{has-test, kept-if}
 use Rattle.verdicts.specs.Verdicts.{first-bad, missing, backward, first-backward}
-use Rattle.verdicts.specs.VerdictLaws.{Entries, all-good, one-bad, entries, Backward, backward-test, missing-test}
+use Rattle.verdicts_laws.specs.VerdictLaws.{Entries, all-good, one-bad, entries, Backward, backward-test, missing-test}
 use Rattle.tallies.specs.Jobs.{room, row-of, Taken}
 use Rattle.tallies.specs.Places.{one-on, place-in, Placed, found-at, highest, Tallied, stands-low}
 use Rattle.tallies.specs.RowLaws.{row-small, row-apart, looked-test}

@@ -1,6 +1,6 @@
 -- `arbiter::request_at` meets its contract: the bytes, one by one, are that part of the list, which is long enough. Assumes nothing.
 use borrow.Author.Needs.{needs}
-use Rattle.history.specs.RecordLaws.{eight-out}
+use Rattle.history_laws.specs.RecordLaws.{eight-out}
 use Rattle.arbiter.proofs.request_at.Statement.{statement}
 use Rattle.arbiter.proofs.request_at.Tie as tie
 

@@ -4,7 +4,7 @@ use Prim.Native.Nat.{ℕ}
 use native.Mathlib.Omega.{arith}
 use borrow.Author.Needs.{needs}
 use Rattle.verdicts.specs.Logs.{read-log, faulty}
-use Rattle.verdicts.specs.SizeLaws.{log-size, FaultKnown, fault-known, last-code}
+use Rattle.verdicts_laws.specs.SizeLaws.{log-size, FaultKnown, fault-known, last-code}
 use Rattle.blocks.specs.Blocks.{refused}
 use Rattle.tallies.specs.Jobs.{Taken}
 use Rattle.logs.specs.Logs.{Reads}

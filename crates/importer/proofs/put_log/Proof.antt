@@ -4,7 +4,7 @@ use Prim.Native.Nat.{ℕ}
 use native.Mathlib.Omega.{arith}
 use borrow.Author.Needs.{needs}
 use Rattle.verdicts.specs.Logs.{read-log, faulty}
-use Rattle.verdicts.specs.SizeLaws.{FaultKnown, fault-known, last-code}
+use Rattle.verdicts_laws.specs.SizeLaws.{FaultKnown, fault-known, last-code}
 use Rattle.blocks.specs.Blocks.{refused}
 use Rattle.notation.specs.Answers.{imported}
 use Rattle.logs.specs.Logs.{Reads}

@@ -4,7 +4,7 @@ use native.Mathlib.Omega.{arith}
 use borrow.Author.Needs.{needs}
 use Rattle.blocks.specs.Blocks.{Filled, read}
 use Rattle.blocks.specs.Promises.{read-small}
-use Rattle.ledger.proofs.AnswerLaws.{read-as}
+use Rattle.blockreader.proofs.AnswerLaws.{read-as}
 use Rattle.ledger.proofs.reedtangle_read_blocks.Statement.{statement}
 use Rattle.ledger.proofs.reedtangle_read_blocks.Tie as tie
 

@@ -4,7 +4,7 @@ use native.Mathlib.Omega.{arith}
 use borrow.Author.Needs.{needs}
 use Rattle.blocks.specs.Blocks.{Filled, write}
 use Rattle.blocks.specs.Promises.{write-small}
-use Rattle.ledger.proofs.AnswerLaws.{written-as}
+use Rattle.blockwriter.proofs.AnswerLaws.{written-as}
 use Rattle.ledger.proofs.reedtangle_write_blocks.Statement.{statement}
 use Rattle.ledger.proofs.reedtangle_write_blocks.Tie as tie
 

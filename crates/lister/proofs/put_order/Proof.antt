@@ -5,7 +5,7 @@ use Prim.Native.Nat.{_-_, _≤_}
 use native.Mathlib.Omega.{arith}
 use borrow.Author.Needs.{needs}
 use lib.ListN.{length}
-use Rattle.plain.specs.Loads.{Stays}
+use Rattle.plain.specs.Stays.{Stays}
 use Rattle.lister.proofs.put_order.Statement.{statement}
 use Rattle.lister.proofs.put_order.Tie as tie
 

@@ -11,6 +11,7 @@ use Rattle.history.specs.Events.{History}
 use Rattle.tallies.specs.Jobs.{Blank, Taken}
 use Rattle.tallies.specs.PassLaws.{pass-none, pass-gone, meets}
 use Rattle.tallies.specs.GatherLaws.{Gathered, gathered-start, gathered-all, gathered-on}
+use Rattle.jobsets.specs.GainLaws.{gains-gained}
 use Rattle.lists.proofs.gather.Statement.{statement}
 use Rattle.lists.proofs.gather.Tie as tie
 
@@ -41,7 +42,7 @@ loop-again c =
       w .7 .ensures .0 ∙ l .loop .inv .1,
       λ h numbers count t z. gathered-on t (meets t (l .loop .inv .2 h numbers count t z) lt (w .0 .taken) (w .2 .taken)) (record {
         gaining = w .5 .last .0;
-        gained = w .5 .ensures;
+        gained = gains-gained (omega arith) (w .5 .ensures);
         put = w .7 .ensures .1;
         struck = w .10 .ensures .1;
       }),

@@ -3,7 +3,7 @@ use mathlib.Core.Path.{_≡_, ap, _∙_}
 use native.Mathlib.Omega.{arith}
 use borrow.Author.Needs.{needs}
 use Rattle.verdicts.specs.Verdicts.{Verdict, check}
-use Rattle.verdicts.specs.SizeLaws.{check-small}
+use Rattle.verdicts_laws.specs.SizeLaws.{check-small}
 use Rattle.orders.proofs.reedtangle_check_order.Statement.{statement}
 use Rattle.orders.proofs.reedtangle_check_order.Tie as tie
 

@@ -3,7 +3,7 @@ use mathlib.Core.Path.{_≡_, ap, _∙_}
 use native.Mathlib.Omega.{arith}
 use borrow.Author.Needs.{needs}
 use Rattle.verdicts.specs.Verdicts.{Listed, list-order}
-use Rattle.verdicts.specs.SizeLaws.{list-small}
+use Rattle.verdicts_laws.specs.SizeLaws.{list-small}
 use Rattle.lists.proofs.ListedLaws.{same-code, same-place, same-list}
 use Rattle.orders.proofs.reedtangle_list_order.Statement.{statement}
 use Rattle.orders.proofs.reedtangle_list_order.Tie as tie

@@ -1,7 +1,7 @@
 -- `reader::record_at` meets its contract: inside, the bytes read are those of the record at the place; outside there is none. Assumes nothing.
 use mathlib.Core.Path.{sym}
 use borrow.Author.Needs.{needs}
-use Rattle.history.specs.RecordLaws.{record-none}
+use Rattle.history_laws.specs.RecordLaws.{record-none}
 use Rattle.reader.proofs.Laws.{record-read}
 use Rattle.reader.proofs.record_at.Statement.{statement}
 use Rattle.reader.proofs.record_at.Tie as tie

@@ -1,10 +1,7 @@
 -- `slots::abandon_job` meets its contract: a law of RequestLaws for each way out. Assumes nothing.
-use Prim.Native.Nat.{_+_, _*_}
-use native.Mathlib.Omega.{arith}
 use borrow.Author.Needs.{needs}
 use Rattle.held.specs.Held.{Held}
 use Rattle.slots.specs.Lent.{lent}
-use Rattle.slots.proofs.SetLaws.{Part}
 use Rattle.slots.proofs.RequestLaws.{Found, slot-found, does-abandon-not-open, does-abandon-written, does-abandon-granted}
 use Rattle.slots.proofs.abandon_job.Statement.{statement}
 use Rattle.slots.proofs.abandon_job.Tie as tie
@@ -18,33 +15,21 @@ state c = let a = c .before .before .before .args in lent (a .next) (a .free) (a
 found : (c : tie.Else1) → Found (state c) (c .before .before .before .args .job .0) (c .before .slot-for .result)
 found c = slot-found (state c) (c .before .before .before .args .job .0) (c .before .slot-for .ensures) (c .if1 .left)
 
-load-requires : tie.Need-load-requires
-load-requires c κs = let q = found (c .before .before) .inside in omega arith
-
--- the slot's own altered cells, loaded
-loaded : (c : tie.After-load) → let e = c .before .before .before in Part (state e .sets) (e .before .slot-for .result * 16 + 4) (c .load .result .words)
-loaded c = record { four = search needs; from = c .load .ensures }
-
 returns-written : tie.Need-returns-2
 returns-written c =
-    let l = c .before .before .before in
-    let e = l .before .before .before in
-    does-abandon-written (found e) (loaded l) (c .before .before .is-empty .ensures) (c .before .if2 .taken)
-    (c .refused2 .ensures)
-
-leave-requires : tie.Need-leave-requires
-leave-requires c κs = found (c .before .before .before .before .before .before .before .before) .inside
+    let t = c .before .before in
+    does-abandon-written (found (t .before .before)) (t .has-altered .ensures) (c .before .if2 .taken) (c .refused2 .ensures)
 
 returns-granted : tie.Need-returns-3
 returns-granted c =
-    let t = c .before .before .before .before in
-    let l = t .before .before in
-    let e = l .before .before .before in
-    does-abandon-granted (found e) (loaded l) (t .before .is-empty .ensures) (t .if2 .left)
-    (e .before .before .before .fits .free .fits) (c .leave .ensures)
+    let l = c .before in
+    let t = l .before .before .before .before in
+    let e = t .before .before .before in
+    does-abandon-granted {h = state e} (found e) (t .before .has-altered .ensures) {left = l .leave-slot .result} {numbers = l .leave-slot .last .1 .0}
+    {leads = l .leave-slot .last .1 .1 .0} {sets = l .leave-slot .last .1 .1 .1 .0} (t .if2 .left) (l .leave-slot .ensures) (c .granted .ensures)
 
 pub abandon-job-spec : {M : Type 1} → statement M
 abandon-job-spec =
     tie.close
-    (tie.spec (λ c κs. search needs) (λ c κs. search needs) returns-not-open (λ c. search needs) (λ c. search needs) (λ c. search needs) load-requires
-    (λ c κs. search needs) (λ c κs. search needs) returns-written leave-requires returns-granted)
+    (tie.spec (λ c κs. search needs) (λ c κs. search needs) returns-not-open (λ c κs. search needs) (λ c κs. search needs) returns-written (λ c κs. search needs)
+    (λ c κs. search needs) returns-granted)

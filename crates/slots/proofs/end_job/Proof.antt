@@ -17,7 +17,13 @@ found : (c : tie.Else1) → Found (state c) (c .before .before .before .args .jo
 found c = slot-found (state c) (c .before .before .before .args .job .0) (c .before .slot-for .ensures) (c .if1 .left)
 
 returns-granted : tie.Need-returns-2
-returns-granted c = let e = c .before .before .before .before in does-end-granted {h = state e} (found e) (c .end-slot .ensures)
+returns-granted c =
+    let l = c .before in
+    let e = l .before .before .before .before in
+    does-end-granted {h = state e} (found e) {left = l .end-slot .result} {numbers = l .end-slot .last .1 .0} {leads = l .end-slot .last .1 .1 .0} {sets = l .end-slot .last .1 .1 .1 .0}
+    (l .end-slot .ensures) (c .granted .ensures)
 
 pub end-job-spec : {M : Type 1} → statement M
-end-job-spec = tie.close (tie.spec (λ c κs. search needs) (λ c κs. search needs) returns-not-open (λ c κs. search needs) returns-granted)
+end-job-spec =
+    tie.close
+    (tie.spec (λ c κs. search needs) (λ c κs. search needs) returns-not-open (λ c κs. search needs) (λ c κs. search needs) returns-granted)

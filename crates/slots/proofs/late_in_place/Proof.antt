@@ -26,7 +26,7 @@ returns-read : tie.Need-returns-3
 returns-read c =
     let m = c .before .before .before .before in
     let e = well (m .before) in
-    lates-read {h = held e} (e .before .args .t6) (e .if1 .left) (m .match .keys2) (m .before .job-in .ensures) (m .before .before .cell-in .ensures) (c .read-job .ensures)
+    lates-read {h = held e} (e .before .args .t6) (e .if1 .left) (m .match .keys2) (m .before .job-in .ensures) (m .before .before .cell-in .ensures) (c .step-job .ensures)
 
 returns-abandon : tie.Need-returns-4
 returns-abandon c =

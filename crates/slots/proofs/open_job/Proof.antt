@@ -20,30 +20,16 @@ slice-write-rows : tie.Need-slice-write-rows
 slice-write-rows c =
     subst (λ (n : ℕ). slot (c .before .before .before .before .args .free) < n) (sym (c .before .rows .given .0 .1)) (inside (c .before .before))
 
-strike-requires : tie.Need-strike-requires
-strike-requires c κs = inside (c .before .before .before .before .before)
-
-lead-to-requires : tie.Need-lead-to-requires
-lead-to-requires c κs = inside (c .before .before .before .before .before .before .before)
-
-blank-requires : tie.Need-blank-requires
-blank-requires c κs = inside (c .before .before .before .before .before .before .before .before .before)
-
-shl : tie.Need-shl-t12
-shl c = inside (c .before .before .before .before .before .before .before .before .before .before .before)
-
 returns-granted : tie.Need-returns-3
 returns-granted c =
-    let r = c .before .before .before .before .before .before .before .before .before .before in
+    let r = c .before .before .before .before in
     let e = r .before in
     let a = e .before .before .args in
     does-open-granted (e .before .before .fits .free .fits) (e .before .if1 .left) (e .if2 .left)
-    (set-tab (a .numbers .now) (slot (a .free)) (a .next % 4294967296) (r .rows .given .0 .1) (inside e) (λ p q. refl))
-    (c .before .before .before .before .before .before .before .having-past .ensures)
-    (c .before .before .before .before .before .strike .ensures) (c .before .before .before .lead-to .ensures) (c .before .blank .ensures)
+    (set-tab (a .numbers .now) (slot (a .free)) (a .next % 4294967296) (r .rows .given .0 .1) (inside e) (λ p q. refl)) (c .open-slot .ensures)
 
 pub open-job-spec : {M : Type 1} → statement M
 open-job-spec =
     tie.close
     (tie.spec (λ c κs. search needs) returns-spent (λ c κs. search needs) returns-full (λ c. search needs) (λ c. search needs) (λ c. search needs)
-    slice-write-rows (λ c κs. search needs) strike-requires lead-to-requires blank-requires (λ c. search needs) shl returns-granted)
+    slice-write-rows (λ c κs. search needs) (λ c. search needs) returns-granted)

@@ -3,7 +3,7 @@ use native.Mathlib.Omega.{arith}
 use borrow.Author.Needs.{needs}
 use Rattle.held.specs.Held.{Held}
 use Rattle.slots.specs.Lent.{lent}
-use Rattle.slots.proofs.RequestLaws.{does-publish-refused, does-publish-granted}
+use Rattle.slots.proofs.RequestLaws.{asks-does, does-publish-refused, does-publish-granted}
 use Rattle.slots.proofs.publish_job.Statement.{statement}
 use Rattle.slots.proofs.publish_job.Tie as tie
 
@@ -15,14 +15,14 @@ returns-refused : tie.Need-returns
 returns-refused c =
     let w = c .before .before in
     let q = c .if1 .taken in
-    does-publish-refused {h = state w} (w .step-job .ensures) (c .before .code .ensures) (λ z. omega arith)
+    does-publish-refused {h = state w} (asks-does (w .step-job .ensures)) (c .before .code .ensures) (λ z. omega arith)
 
 returns-granted : tie.Need-returns-2
 returns-granted c =
     let e = c .before .before .before .before in
     let w = e .before .before in
     let q = e .if1 .left in
-    does-publish-granted {h = state w} (w .step-job .ensures) (e .before .code .ensures) (omega arith) (c .end-job .ensures)
+    does-publish-granted {h = state w} (asks-does (w .step-job .ensures)) (e .before .code .ensures) (omega arith) (c .end-job .ensures)
 
 pub publish-job-spec : {M : Type 1} → statement M
 publish-job-spec = tie.close (tie.spec (λ c κs. search needs) (λ c κs. search needs) returns-refused (λ c κs. search needs) returns-granted)

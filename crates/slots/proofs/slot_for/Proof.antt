@@ -13,7 +13,7 @@ use lib.ListN.{getD}
 use Rattle.marks.specs.Marks.{bit}
 use Rattle.marks.specs.MarkLaws.{and-mark, shl-one}
 use Rattle.marks.specs.MaskLaws.{lowest-none, lowest-is}
-use Rattle.slots.specs.Rows.{holds}
+use Rattle.slots.specs.Finds.{holds}
 use Rattle.slots.proofs.slot_for.Statement.{statement}
 use Rattle.slots.proofs.slot_for.Tie as tie
 

@@ -2,8 +2,8 @@
 use borrow.Author.Needs.{needs}
 use Rattle.held.specs.Held.{Held}
 use Rattle.slots.specs.Lent.{lent}
-use Rattle.slots.specs.declared.Deed.the-variants.{Read, Write, Add}
-use Rattle.slots.proofs.RequestLaws.{steps-byte, steps-kind, steps-open, steps-step, steps-end, steps-abandon, steps-publish}
+use Rattle.rows.specs.declared.Deed.the-variants.{Read, Write, Add}
+use Rattle.slots.proofs.RequestLaws.{asks-does, steps-byte, steps-kind, steps-open, steps-step, steps-end, steps-abandon, steps-publish}
 use Rattle.slots.proofs.step_in_place.Statement.{statement}
 use Rattle.slots.proofs.step_in_place.Tie as tie
 
@@ -27,13 +27,13 @@ returns-read : tie.Need-returns-3
 returns-read c =
     let m = c .before .before .before .before in
     let e = well (m .before) in
-    steps-step {h = held e} (e .before .args .t6) (e .if1 .left) Read (m .match .keys2) (m .before .job-in .ensures) (m .before .before .cell-in .ensures) (c .step-job .ensures)
+    steps-step {h = held e} (e .before .args .t6) (e .if1 .left) Read (m .match .keys2) (m .before .job-in .ensures) (m .before .before .cell-in .ensures) (asks-does (c .step-job .ensures))
 
 returns-write : tie.Need-returns-4
 returns-write c =
     let m = c .before .before .before .before in
     let e = well (m .before) in
-    steps-step {h = held e} (e .before .args .t6) (e .if1 .left) Write (m .match .keys3) (m .before .job-in .ensures) (m .before .before .cell-in .ensures) (c .step-job2 .ensures)
+    steps-step {h = held e} (e .before .args .t6) (e .if1 .left) Write (m .match .keys3) (m .before .job-in .ensures) (m .before .before .cell-in .ensures) (asks-does (c .step-job2 .ensures))
 
 returns-end : tie.Need-returns-5
 returns-end c =
@@ -57,7 +57,7 @@ returns-add : tie.Need-returns-8
 returns-add c =
     let m = c .before .before .before .before in
     let e = well (m .before) in
-    steps-step {h = held e} (e .before .args .t6) (e .if1 .left) Add (m .match .keys7) (m .before .job-in .ensures) (m .before .before .cell-in .ensures) (c .step-job3 .ensures)
+    steps-step {h = held e} (e .before .args .t6) (e .if1 .left) Add (m .match .keys7) (m .before .job-in .ensures) (m .before .before .cell-in .ensures) (asks-does (c .step-job3 .ensures))
 
 returns-kind : tie.Need-returns-9
 returns-kind c =

@@ -1,0 +1,4 @@
+pub mod FaultLaws
+pub mod ReadLaws
+pub mod AnswerLaws
+pub mod OneAnswer

@@ -1,0 +1,14 @@
+pub mod ReplyLaws
+pub mod RecordLaws
+pub mod EventLaws
+pub mod CircleLaws
+pub mod TurnLaws
+pub mod MemoryLaws
+pub mod MemoryTells
+pub mod Granted
+pub mod Exact
+pub mod LayoutLaws
+pub mod RunLaws
+pub mod OrderLaws
+pub mod TimeLaws
+pub mod Promises

@@ -1,0 +1,4 @@
+pub mod LogLaws
+pub mod VerdictLaws
+pub mod SizeLaws
+pub mod Promises
