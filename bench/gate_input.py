@@ -10,7 +10,7 @@ a time from a file, so the input is longer than that: the last requests are a se
 cells that were written or added to by jobs of the first batch, which have ended since, one of them by a publish.
 
 The replies are not the arbiter's. They come from the class `Whole`, which keeps every granted request and decides a step by the precedences of the whole
-kept history. Every code comes up but 6: the program starts from number 1, and 6 wants 4,294,967,295 opens."""
+kept history. Every code comes up but 6: the program starts from number 1, and 6 wants 4,294,967,295 opens. An open names its port: one of the three, or one that is none."""
 import os
 import subprocess
 import sys
@@ -29,7 +29,7 @@ class Whole:
     """Answers from the whole kept history."""
 
     def __init__(self, first):
-        self.next, self.opened, self.gone = first, [], set()
+        self.next, self.opened, self.gone, self.ports = first, [], set(), {}
         self.steps = []  # (job, cell, kind), every granted step
         self.spared = 0  # adds that were granted where a write would not be
         self.later = {}  # job: the jobs that it precedes by a conflict
@@ -65,8 +65,13 @@ class Whole:
         if kind == OPEN:
             if self.next > 0xFFFFFFFF:
                 return 6, 0
+            if job > 2:
+                return 8, 0
             if len(self.opened) - len(self.gone) == 32:
                 return 5, 0
+            if sum(self.ports[j] == job for j in self.opened if j not in self.gone) == 16:
+                return 9, 0
+            self.ports[self.next] = job
             self.next += 1
             self.opened.append(self.next - 1)
             return 0, self.next - 1
@@ -110,13 +115,20 @@ class Random:
         return (x >> 20) % n
 
 
-# How many jobs the generator opens at most, of how many cells it takes one, how many of a hundred requests are bad, how many of a hundred leavings are abandons.
-SHAPES = [(6, 8, 4, 20), (33, 40, 4, 20), (12, 6, 4, 60), (10, 240, 40, 20)]
+# How many jobs the generator opens at most, of how many cells it takes one, how many of a hundred requests are bad, how many of a hundred leavings are abandons, and how many of a hundred
+# opens are of port 1; the others are of any.
+SHAPES = [(6, 8, 4, 20, 0), (33, 40, 4, 20, 0), (12, 6, 4, 60, 0), (33, 40, 4, 20, 80), (10, 240, 40, 20, 0)]
+
+
+def port(r, one):
+    """A port, and now and then a number that is none: 3 to 5, one with a port in its low byte, any."""
+    p = 1 if r.below(100) < one else r.below(3)
+    return {0: p + 3, 1: p + 256 * (1 + r.below(99)), 2: r.below(0x100000000)}.get(r.below(40), p)
 
 
 def some(r, shape, live):
     """A request that is likely to be granted, or one that is not. `live` are the jobs that the generator knows to be open."""
-    most, cells, bad, abandons = shape
+    most, cells, bad, abandons, one = shape
     job = live[r.below(len(live))] if live else 0
     if r.below(100) < bad:
         return [
@@ -127,7 +139,7 @@ def some(r, shape, live):
             request(2 + r.below(6), 0, r.below(250), max(0, job - 1 - r.below(9))),
         ][r.below(5)]
     if not live or (len(live) < most and r.below(4) == 0):
-        return request(OPEN, 0, r.below(65536), r.below(0x100000000))
+        return request(OPEN, 0, r.below(65536), port(r, one))
     if r.below(8 if len(live) < most else 4) == 0:
         if r.below(3) == 0:
             return request(PUBLISH, 0, r.below(cells), job)

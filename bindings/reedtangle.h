@@ -44,6 +44,8 @@ extern "C" {
 
 enum {
     REEDTANGLE_SLOTS = 32,          /* at most so many jobs are open at once */
+    REEDTANGLE_PORTS = 3,           /* ports are numbered 0 to 2 */
+    REEDTANGLE_PORT_SLOTS = 16,     /* at most so many jobs of one port are open at once */
     REEDTANGLE_CELLS = 256,         /* cells are numbered 0 to 255 */
     REEDTANGLE_SET_WORDS = 512,     /* words of the cell sets in a state */
     REEDTANGLE_LOG_RECORDS = 4096,  /* a log has at most so many records */
@@ -58,10 +60,10 @@ enum {
  *     byte   0      the kind, 1 to 7 in a request, 1 to 5 or 7 in a record
  *     byte   1      0
  *     bytes  2, 3   the cell, low byte first
- *     bytes  4..7   the job, low byte first
+ *     bytes  4..7   the job, in the request of an open its port, low byte first
  *
  *     kind            cell in a request   job in a request   cell in a record   job in a record
- *     1  open         ignored             ignored            0                  the number issued
+ *     1  open         ignored             the port           0                  the number issued
  *     2  read         the cell            the asking job     the cell           the asking job
  *     3  write        the cell            the asking job     the cell           the asking job
  *     4  end          ignored             the asking job     0                  the asking job
@@ -89,7 +91,7 @@ enum {
     /* all: granted, accepted, listed, done */
     REEDTANGLE_GRANTED = 0,
 
-    /* reedtangle_step, and each answer of reedtangle_replay. Tested in this sequence: open 1, 6, 5; read, write, add and publish
+    /* reedtangle_step, and each answer of reedtangle_replay. Tested in this sequence: open 1, 6, 8, 5, 9; read, write, add and publish
        1, 2, 3, 7; end 1, 3; abandon 1, 3, 4. The first that holds is given. */
     REEDTANGLE_MALFORMED = 1,       /* the kind is none of 1 to 7, or byte 1 is not 0 */
     REEDTANGLE_NO_CELL = 2,         /* the cell of a read, write, add or publish is 256 or more */
@@ -98,6 +100,8 @@ enum {
     REEDTANGLE_FULL = 5,            /* an open while 32 jobs are open */
     REEDTANGLE_SPENT = 6,           /* an open after job number 4,294,967,295 was issued */
     REEDTANGLE_CIRCLE = 7,          /* with this read, add, or write, a publish's too, no order of the jobs would do */
+    REEDTANGLE_NO_PORT = 8,         /* an open whose port is 3 or more */
+    REEDTANGLE_PORT_FULL = 9,       /* an open while 16 jobs of its port are open */
 
     /* checker and lister: the log is at fault. The place is that of the first faulty record, counted from 0; for 11 it is 0. */
     REEDTANGLE_LENGTH = 11,         /* the length is no multiple of 8, or over 32,768 bytes */
@@ -124,12 +128,12 @@ enum {
 
 /*
  * A fresh state, with no job open, in memory that the host keeps: `next` and `free` are one number each, `numbers` and `leads` 32 each,
- * `sets` 512. The first job opened gets the number `first`, which may be any. What the memory held before does not matter.
+ * `sets` 512, `ports` 3. The first job opened gets the number `first`, which may be any. What the memory held before does not matter.
  */
-void reedtangle_fresh(uint32_t first, uint64_t *next, uint32_t *free, uint32_t *numbers, uint32_t *leads, uint64_t *sets);
+void reedtangle_fresh(uint32_t first, uint64_t *next, uint32_t *free, uint32_t *numbers, uint32_t *leads, uint64_t *sets, uint32_t *ports);
 
 /*
- * One request, eight bytes, on a state that the host keeps. Comes back: code times 2^32 plus job. The code is 0 to 7. The job is the number
+ * One request, eight bytes, on a state that the host keeps. Comes back: code times 2^32 plus job. The code is 0 to 9. The job is the number
  * issued for a granted open, the asking job for any other grant, and 0 for a refusal; since 0 is a job number too, go by the code.
  *
  * From a fresh state through any requests, each answer is the one that the whole history gives: a read, write or add of an open job on a real
@@ -137,7 +141,7 @@ void reedtangle_fresh(uint32_t first, uint64_t *next, uint32_t *free, uint32_t *
  * and the end of the job leave; where it is refused the job is open as before. On a refusal no bit of the state changes. For a state with any other
  * content the call still ends, with one answer and one next state; then nothing is said of a history.
  */
-uint64_t reedtangle_step(uint64_t *next, uint32_t *free, uint32_t *numbers, uint32_t *leads, uint64_t *sets, const uint8_t *request);
+uint64_t reedtangle_step(uint64_t *next, uint32_t *free, uint32_t *numbers, uint32_t *leads, uint64_t *sets, uint32_t *ports, const uint8_t *request);
 
 /*
  * Many requests from a fresh state of its own, which is gone afterwards. In: the first number, `length` bytes of requests, any bytes, and
@@ -187,13 +191,13 @@ uint64_t reedtangle_list_order(const uint8_t *log, size_t length, uint32_t *out,
  */
 
 /*
- * One request, eight bytes: an open, a read or an abandon. Comes back: code times 2^32 plus job, as from reedtangle_step. Tested in this sequence: open 1, 6, 5; read 1, 2,
+ * One request, eight bytes: an open, a read or an abandon. Comes back: code times 2^32 plus job, as from reedtangle_step. Tested in this sequence: open 1, 6, 8, 5, 9; read 1, 2,
  * 3; abandon 1, 3, 4. Any other kind gets 1. A read never gets 7; and as a job writes at its end alone, an abandon never gets 4 from a fresh state on.
  */
-uint64_t reedtangle_late_step(uint64_t *next, uint32_t *free, uint32_t *numbers, uint32_t *leads, uint64_t *sets, const uint8_t *request);
+uint64_t reedtangle_late_step(uint64_t *next, uint32_t *free, uint32_t *numbers, uint32_t *leads, uint64_t *sets, uint32_t *ports, const uint8_t *request);
 
 /*
- * A job writes the cells of a set, any or none, and ends. Comes back: code times 2^32 plus job, the job for a grant and 0 for a refusal.
+ * A job writes the cells of a set, any or none, and ends. The slots of the ports stay as they are, so they are not lent. Comes back: code times 2^32 plus job, the job for a grant and 0 for a refusal.
  *
  *     0    granted; in a log it is a write for each cell, the lowest first, and the end: reedtangle_put_published below makes these
  *     3    the job is not open
@@ -226,7 +230,7 @@ uint64_t reedtangle_read_blocks(const uint8_t *blocks, size_t length, uint8_t *o
 
 /* ---- batches: one function more, in an archive of its own, target/staticlib/libbatch.a (`rt staticlib batch`)
  *
- * Up to 64 reads, writes and adds in one call, on a state that the host keeps, `length` bytes of requests. Comes back: code times 2^32 plus place.
+ * Up to 64 reads, writes and adds in one call, on a state that the host keeps, all but `ports`, which no step looks at; `length` bytes of requests. Comes back: code times 2^32 plus place.
  *
  *     0               all are granted; the place is their count, and the state is the one that they leave one by one
  *     1, 2, 3, 7      the first that would be refused, with its place from 0; no bit of the state changes. 1 also for a kind other than 2, 3 and 7
@@ -284,7 +288,7 @@ uint32_t reedtangle_export(const uint8_t *log, size_t length, uint8_t *out, size
 /* ---- the state as one piece, and wrappers that take it */
 
 /*
- * What a host keeps, 4,368 bytes, of which four are padding. Plain numbers: it may be copied, saved and read back. To be made by reedtangle_start
+ * What a host keeps, 4,384 bytes, of which eight are padding. Plain numbers: it may be copied, saved and read back. To be made by reedtangle_start
  * and changed by reedtangle_ask alone, if the answers are to be those of a history.
  */
 typedef struct reedtangle_state {
@@ -294,12 +298,14 @@ typedef struct reedtangle_state {
     uint32_t leads[REEDTANGLE_SLOTS];       /* bit j of the i-th: the job in slot i leads to the one in slot j */
     uint64_t sets[REEDTANGLE_SET_WORDS];    /* sixteen words a slot, four a cell set: own used, own altered, past used, past altered;
                                                used is read or written, altered is written or added to */
+    uint32_t ports[REEDTANGLE_PORTS];       /* bit i of the p-th: slot i is of port p; a slot keeps its port when its job is gone, and counts
+                                               while it is open */
 } reedtangle_state;
 
 #ifdef __cplusplus
-static_assert(sizeof(reedtangle_state) == 4368, "the state is 4,368 bytes");
+static_assert(sizeof(reedtangle_state) == 4384, "the state is 4,384 bytes");
 #else
-_Static_assert(sizeof(reedtangle_state) == 4368, "the state is 4,368 bytes");
+_Static_assert(sizeof(reedtangle_state) == 4384, "the state is 4,384 bytes");
 #endif
 
 /* A code with a job. */
@@ -317,13 +323,13 @@ typedef struct reedtangle_verdict {
 /* reedtangle_fresh on a state. */
 static inline void reedtangle_start(reedtangle_state *state, uint32_t first)
 {
-    reedtangle_fresh(first, &state->next, &state->free, state->numbers, state->leads, state->sets);
+    reedtangle_fresh(first, &state->next, &state->free, state->numbers, state->leads, state->sets, state->ports);
 }
 
 /* reedtangle_step on a state. The eight bytes of the request are not within the state. */
 static inline reedtangle_reply reedtangle_ask(reedtangle_state *state, const uint8_t *request)
 {
-    uint64_t both = reedtangle_step(&state->next, &state->free, state->numbers, state->leads, state->sets, request);
+    uint64_t both = reedtangle_step(&state->next, &state->free, state->numbers, state->leads, state->sets, state->ports, request);
     reedtangle_reply reply;
     reply.code = (uint32_t)(both >> 32);
     reply.job = (uint32_t)both;
@@ -404,7 +410,7 @@ static inline void reedtangle_late_start(reedtangle_late *late, uint32_t first)
 static inline reedtangle_reply reedtangle_late_ask(reedtangle_late *late, const uint8_t *request)
 {
     reedtangle_state *s = &late->state;
-    uint64_t both = reedtangle_late_step(&s->next, &s->free, s->numbers, s->leads, s->sets, request);
+    uint64_t both = reedtangle_late_step(&s->next, &s->free, s->numbers, s->leads, s->sets, s->ports, request);
     reedtangle_reply reply;
     reply.code = (uint32_t)(both >> 32);
     reply.job = (uint32_t)both;

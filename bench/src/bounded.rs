@@ -21,6 +21,8 @@ pub struct Bounded {
     clash: [[[u64; ROWS]; 4]; 3],
     /// rows whose past is not empty: they precede a job that has ended, and so every job that opens now
     past: u32,
+    /// the slots of each port: those that are open count
+    pub ports: [u32; 3],
 }
 
 fn all(bits: u32) -> impl Iterator<Item = usize> {
@@ -45,6 +47,7 @@ impl Bounded {
             rows: [[0; 16]; ROWS],
             clash: [[[0; ROWS]; 4]; 3],
             past: 0,
+            ports: [0; 3],
         }
     }
 
@@ -55,6 +58,7 @@ impl Bounded {
         numbers: [u32; ROWS],
         leads: [u32; ROWS],
         sets: &[u64; 512],
+        ports: [u32; 3],
     ) -> Bounded {
         let mut b = Bounded {
             next,
@@ -64,6 +68,7 @@ impl Bounded {
             rows: [[0; 16]; ROWS],
             clash: [[[0; ROWS]; 4]; 3],
             past: 0,
+            ports,
         };
         for i in 0..ROWS {
             b.rows[i].copy_from_slice(&sets[i * 16..i * 16 + 16]);
@@ -78,6 +83,17 @@ impl Bounded {
             s[i * 16..i * 16 + 16].copy_from_slice(&self.rows[i]);
         }
         s
+    }
+
+    /// How many jobs of the port are open?
+    #[inline]
+    pub fn crowd(&self, port: usize) -> u32 {
+        (self.ports[port] & !self.free).count_ones()
+    }
+
+    /// Port 0 or port 1, whichever has fewer open jobs: so 32 can be open, and no such open gets 9.
+    pub fn emptier(&self) -> u32 {
+        (self.crowd(1) < self.crowd(0)) as u32
     }
 
     #[inline]
@@ -187,8 +203,14 @@ impl Bounded {
                 if self.next > u32::MAX as u64 {
                     return (6, 0);
                 }
+                if job > 2 {
+                    return (8, 0);
+                }
                 if self.free == 0 {
                     return (5, 0);
+                }
+                if self.crowd(job as usize) >= 16 {
+                    return (9, 0);
                 }
                 let s = self.free.trailing_zeros() as usize;
                 let number = self.next as u32;
@@ -196,6 +218,10 @@ impl Bounded {
                 for i in all(self.past & !self.free) {
                     self.leads[i] |= 1 << s;
                 }
+                for mask in self.ports.iter_mut() {
+                    *mask &= !(1 << s);
+                }
+                self.ports[job as usize] |= 1 << s;
                 self.numbers[s] = number;
                 self.next += 1;
                 self.free &= !(1 << s);

@@ -12,7 +12,7 @@ const WINDOW: u64 = 300;
 #[derive(Default)]
 struct Tally {
     requests: u64,
-    codes: [u64; 8],
+    codes: [u64; 10],
     through_ended: u64,
     by_time: u64,
     /// Publishes and adds that were granted, and those that got 7; of the adds granted, those that would not have been as writes, where the whole history is kept.
@@ -54,6 +54,7 @@ pub fn same_state(o: &Ours, b: &Bounded) -> bool {
         && o.numbers == b.numbers
         && o.leads == b.leads
         && o.sets == b.sets()
+        && o.ports == b.ports
 }
 
 /// Windows against the whole history.
@@ -126,6 +127,15 @@ fn long(shape: Shape, seed: u64, requests: u64) -> Tally {
     t
 }
 
+/// The slots of a port in a made-up state: a half of them, three quarters, or all, open or not, and whatever the other ports have.
+pub fn any_port(r: &mut Random) -> u32 {
+    match r.below(3) {
+        0 => r.next() as u32,
+        1 => r.next() as u32 | r.next() as u32,
+        _ => !0,
+    }
+}
+
 /// States of any content, one request each.
 fn made_up(seed: u64, states: u64) -> Tally {
     let mut t = Tally::default();
@@ -133,6 +143,7 @@ fn made_up(seed: u64, states: u64) -> Tally {
     let mut numbers = [0u32; 32];
     let mut leads = [0u32; 32];
     let mut sets = Box::new([0u64; 512]);
+    let mut ports = [0u32; 3];
     for _ in 0..states {
         // dense or sparse, numbers from a few so that some stand in two slots
         let few = 1 + r.below(40);
@@ -171,17 +182,23 @@ fn made_up(seed: u64, states: u64) -> Tally {
             2 => u64::MAX - r.below(2),
             _ => r.below(1000),
         };
+        for mask in ports.iter_mut() {
+            *mask = any_port(&mut r);
+        }
         let kind = 1 + r.below(7) as u8;
-        let mut b = Bounded::of(next, free, numbers, leads, &sets);
+        let mut b = Bounded::of(next, free, numbers, leads, &sets, ports);
         let mut o = Ours::of(State {
             next,
             free,
             numbers,
             leads,
             sets: *sets,
+            ports,
         });
         let open: Vec<usize> = (0..32).filter(|i| free >> i & 1 == 0).collect();
-        let job = if open.is_empty() || r.one_in(10) {
+        let job = if kind == OPEN {
+            port(&mut r, false)
+        } else if open.is_empty() || r.one_in(10) {
             r.below(few) as u32
         } else {
             numbers[open[r.below(open.len() as u64) as usize]]
@@ -219,7 +236,8 @@ pub fn run(seed: u64, requests: u64) -> bool {
     println!("seed {seed}");
     let mut failed = 0;
     let mut passed = 0;
-    let mut codes = [0u64; 8];
+    let mut codes = [0u64; 10];
+    let mut whole = [0u64; 10];
     let mut total = 0;
     let mut by_time = 0;
     let mut without = 0;
@@ -233,6 +251,11 @@ pub fn run(seed: u64, requests: u64) -> bool {
         spared += t.spared;
         for (sum, n) in codes.iter_mut().zip(t.codes) {
             *sum += n;
+        }
+        if name.starts_with("whole") {
+            for (sum, n) in whole.iter_mut().zip(t.codes) {
+                *sum += n;
+            }
         }
         if t.differ == 0 {
             passed += 1
@@ -252,9 +275,9 @@ pub fn run(seed: u64, requests: u64) -> bool {
         );
     }
     count("made-up states".to_string(), made_up(seed, requests / 10));
-    println!("{total} requests in all, codes {codes:?}");
-    if codes.iter().any(|&n| n == 0) || by_time == 0 || spared == 0 || without != 0 {
-        println!("a code was never given, or no circle came only by an end before an open, or no add was granted where a write would not be, or in some line no publish or no add was granted or none got 7");
+    println!("{total} requests in all, codes {codes:?}; of those by the whole history {whole:?}");
+    if whole.iter().any(|&n| n == 0) || by_time == 0 || spared == 0 || without != 0 {
+        println!("a code was never given by the whole history, or no circle came only by an end before an open, or no add was granted where a write would not be, or in some line no publish or no add was granted or none got 7");
         failed += 1;
     } else {
         passed += 1;

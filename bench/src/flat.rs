@@ -137,6 +137,7 @@ pub fn make(open: u64, age: u64, requests: u64, path: &str) -> bool {
             .flat_map(|n| n.to_le_bytes()),
     );
     bytes.extend(s.sets.iter().flat_map(|n| n.to_le_bytes()));
+    bytes.extend(s.ports.iter().flat_map(|n| n.to_le_bytes()));
     bytes.extend(run.history.stretch(requests));
     std::fs::write(path, bytes).unwrap();
     false
@@ -149,7 +150,8 @@ pub fn count(side: &str, path: &str) -> bool {
     let (free, rest) = rest.split_at(4);
     let (numbers, rest) = rest.split_at(128);
     let (leads, rest) = rest.split_at(128);
-    let (sets, requests) = rest.split_at(4096);
+    let (sets, rest) = rest.split_at(4096);
+    let (ports, requests) = rest.split_at(12);
     let four = |b: &[u8], i: usize| u32::from_le_bytes(b[4 * i..4 * i + 4].try_into().unwrap());
     let eight = |b: &[u8], i: usize| u64::from_le_bytes(b[8 * i..8 * i + 8].try_into().unwrap());
     let mut ours = Ours::of(State {
@@ -158,6 +160,7 @@ pub fn count(side: &str, path: &str) -> bool {
         numbers: std::array::from_fn(|i| four(numbers, i)),
         leads: std::array::from_fn(|i| four(leads, i)),
         sets: std::array::from_fn(|i| eight(sets, i)),
+        ports: std::array::from_fn(|i| four(ports, i)),
     });
     let mut out = vec![0u8; requests.len()];
     if side == "ours" {

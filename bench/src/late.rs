@@ -1,6 +1,7 @@
 //! The second profile, in which every read is granted and a job writes and ends by one publish: an arbiter that keeps the whole history, by the definitions,
 //! one in bounded memory that holds for each cell which slots have it, both written apart from the project's own, and the proved one. Every reply is compared, and
 //! every state of the two bounded ones; of each window the log with the open jobs taken out is to have an order, by two judges.
+use crate::differ::any_port;
 use crate::judge;
 use crate::ours::{check, list, OursLate};
 use crate::requests::*;
@@ -87,6 +88,8 @@ impl Graph {
 pub struct WholeLate {
     first: u64,
     history: Vec<Event>,
+    /// The port of each job, in the sequence of their opens.
+    ports: Vec<u32>,
     /// Of the publishes with code 7: those whose every circle passes two ended jobs or more, those that would have none without the pairs of an end and a later open,
     /// and those that named no cell.
     pub chained: u64,
@@ -99,6 +102,7 @@ impl WholeLate {
         WholeLate {
             first: first as u64,
             history: vec![],
+            ports: vec![],
             chained: 0,
             by_time: 0,
             of_none: 0,
@@ -124,6 +128,12 @@ impl WholeLate {
         jobs
     }
 
+    /// How many jobs of the port are open?
+    fn crowd(&self, port: u32) -> usize {
+        let all = self.opened().into_iter().zip(&self.ports);
+        all.filter(|&(j, &p)| p == port && self.is_open(j)).count()
+    }
+
     fn grant(&mut self, kind: u8, job: u32, cell: u8) -> (u32, u32) {
         self.history.push(Event { kind, job, cell });
         (0, job)
@@ -137,9 +147,16 @@ impl WholeLate {
                 if number > u32::MAX as u64 {
                     return (6, 0);
                 }
+                if job > 2 {
+                    return (8, 0);
+                }
                 if self.open_jobs().len() >= 32 {
                     return (5, 0);
                 }
+                if self.crowd(job) >= 16 {
+                    return (9, 0);
+                }
+                self.ports.push(job);
                 self.grant(OPEN, number as u32, 0)
             }
             (READ, 0) if cell > 255 => (2, 0),
@@ -213,6 +230,8 @@ pub struct Columns {
     leads: [u32; 32],
     own: [[u32; 256]; 2],
     past: [[u32; 256]; 2],
+    /// for each slot the ports that have it, one of three marks each
+    of: [u8; 32],
 }
 
 fn slots(mask: u32) -> impl Iterator<Item = usize> {
@@ -228,6 +247,10 @@ impl Columns {
             leads: s.leads,
             own: [[0; 256]; 2],
             past: [[0; 256]; 2],
+            of: std::array::from_fn(|i| {
+                let mark = |p: usize| ((s.ports[p] >> i & 1) as u8) << p;
+                mark(0) | mark(1) | mark(2)
+            }),
         };
         for (w, word) in s.sets.iter().enumerate() {
             let (slot, kind, part) = (w / 16, w / 4 % 2, w % 4);
@@ -247,6 +270,7 @@ impl Columns {
             leads: [0; 32],
             own: [[0; 256]; 2],
             past: [[0; 256]; 2],
+            of: [0; 32],
         }
     }
 
@@ -266,6 +290,10 @@ impl Columns {
             numbers: self.numbers,
             leads: self.leads,
             sets,
+            ports: [0, 1, 2].map(|p| {
+                let has = (0..32).filter(|&i| self.of[i] >> p & 1 == 1);
+                has.fold(0, |all, i| all | 1 << i)
+            }),
         }
     }
 
@@ -312,18 +340,26 @@ impl Columns {
         self.free |= me;
     }
 
-    fn open(&mut self) -> (u32, u32) {
+    fn open(&mut self, port: u32) -> (u32, u32) {
         if self.next > u32::MAX as u64 {
             return (6, 0);
         }
+        if port > 2 {
+            return (8, 0);
+        }
         if self.free == 0 {
             return (5, 0);
+        }
+        let crowd = slots(!self.free).filter(|&i| self.of[i] >> port & 1 == 1);
+        if crowd.count() >= 16 {
+            return (9, 0);
         }
         let s = self.free.trailing_zeros() as usize;
         let (number, open) = (self.next as u32, !self.free);
         self.leave(s, 0);
         let after = self.past.iter().flatten().fold(0, |all, slots| all | slots);
         self.lead(after & open, s);
+        self.of[s] = 1 << port;
         self.numbers[s] = number;
         self.free &= !(1 << s);
         self.next += 1;
@@ -360,7 +396,7 @@ impl Columns {
         };
         let (cell, job) = (cell_of(r) as usize, job_of(r));
         match (r[0], r[1], self.slot(job)) {
-            (OPEN, 0, _) => self.open(),
+            (OPEN, 0, _) => self.open(job),
             (READ, 0, _) if cell > 255 => (2, 0),
             (READ | ABANDON, 0, None) => (3, 0),
             (READ, 0, Some(s)) => {
@@ -390,9 +426,10 @@ pub enum Shape {
     WrongKinds,
     SlotsFull,
     NumbersOut,
+    OnePort,
 }
 
-pub const LATE_SHAPES: [Shape; 8] = [
+pub const LATE_SHAPES: [Shape; 9] = [
     Shape::FewCells,
     Shape::ManyReaders,
     Shape::Retries,
@@ -401,6 +438,7 @@ pub const LATE_SHAPES: [Shape; 8] = [
     Shape::WrongKinds,
     Shape::SlotsFull,
     Shape::NumbersOut,
+    Shape::OnePort,
 ];
 
 /// Makes what is likely to be granted, and some that is not. It is told the replies, so that it knows which jobs are open and which publish got 7.
@@ -440,6 +478,7 @@ impl Stream {
             Shape::WrongKinds => 8,
             Shape::SlotsFull => 33,
             Shape::NumbersOut => 20,
+            Shape::OnePort => 33,
         }
     }
 
@@ -451,7 +490,7 @@ impl Stream {
             Shape::Chains | Shape::Abandons => 16,
             Shape::ManyReaders => 40,
             Shape::NumbersOut => 60,
-            Shape::WrongKinds | Shape::SlotsFull => 256,
+            Shape::WrongKinds | Shape::SlotsFull | Shape::OnePort => 256,
         };
         (self.random.below(few) * 37 % 256) as u16
     }
@@ -524,23 +563,21 @@ impl Stream {
         }
         let full =
             self.open.len() >= self.most() || (self.open.len() > 31 && !self.random.one_in(8));
-        let eager = self.shape == Shape::SlotsFull && self.random.one_in(3);
+        let eager =
+            matches!(self.shape, Shape::SlotsFull | Shape::OnePort) && self.random.one_in(3);
         if self.open.is_empty() || (!full && (eager || self.random.one_in(4))) {
             let r = &mut self.random;
             let any = r.one_in(9);
-            return Ask::Request(request(
-                OPEN,
-                0,
-                r.next() as u16 * any as u16,
-                r.next() as u32 * any as u32,
-            ));
+            let cell = r.next() as u16 * any as u16;
+            let port = port(r, self.shape == Shape::OnePort);
+            return Ask::Request(request(OPEN, 0, cell, port));
         }
         let (job, cell) = (self.job(), self.cell());
         let (goes, gives_up) = match self.shape {
             Shape::ManyReaders => (8, 6),
             Shape::Chains => (3, 20),
             Shape::Abandons => (4, 2),
-            Shape::SlotsFull => (12, 6),
+            Shape::SlotsFull | Shape::OnePort => (12, 6),
             _ => (4, 8),
         };
         if !self.random.one_in(goes) {
@@ -585,7 +622,7 @@ impl Stream {
 #[derive(Default)]
 struct Tally {
     asks: u64,
-    codes: [u64; 8],
+    codes: [u64; 10],
     publishes: u64,
     chained: u64,
     by_time: u64,
@@ -703,6 +740,7 @@ fn any_state(r: &mut Random, few: u64) -> State {
         numbers: [0; 32],
         leads: [0; 32],
         sets: [0; 512],
+        ports: [0; 3].map(|_| any_port(r)),
     };
     let thin = r.below(6);
     for i in 0..32 {
@@ -740,6 +778,11 @@ fn made_up(seed: u64, states: u64) -> Tally {
         } else {
             let cell = if r.one_in(20) { r.next() } else { r.below(256) };
             let kind = [OPEN, READ, READ, ABANDON, 1 + r.below(6) as u8][r.below(5) as usize];
+            let job = if kind == OPEN {
+                port(&mut r, false)
+            } else {
+                job
+            };
             Ask::Request(request(kind, r.one_in(50) as u8, cell as u16, job))
         };
         let (mut b, mut o) = (Columns::of(&state), OursLate::of(state));
@@ -786,7 +829,8 @@ pub fn run(seed: u64, asks: u64) -> bool {
         all.differ, all.asks, all.codes
     );
     // in a history nothing is written before the end: 4 is of made-up states alone
-    let enough = (0..8).all(|c| all.codes[c] > 0)
+    let enough = (0..10).all(|c| all.codes[c] > 0)
+        && [5, 6, 8, 9].iter().all(|&c: &usize| whole.codes[c] > 0)
         && whole.codes[4] == 0
         && [whole.chained, whole.by_time, whole.of_none]
             .iter()

@@ -18,7 +18,7 @@ fn set_of(words: &[&str]) -> Cells {
 struct Counts {
     differ: u64,
     asks: u64,
-    codes: [u64; 8],
+    codes: [u64; 10],
     published: u64,
     records: u64,
     histories: u64,
@@ -87,7 +87,7 @@ impl Told {
         let n = &self.n;
         let codes: Vec<String> = n.codes.iter().map(u64::to_string).collect();
         format!(
-            "{} differ of {} asks; codes 0 to 7: {}; {} publishes granted, {} records, {} histories\n",
+            "{} differ of {} asks; codes 0 to 9: {}; {} publishes granted, {} records, {} histories\n",
             n.differ,
             n.asks,
             codes.join(" "),

@@ -27,7 +27,7 @@ pub fn granted(
             if opened == jobs {
                 break;
             }
-            request(OPEN, 0, 0, 0)
+            request(OPEN, 0, 0, b.emptier())
         } else {
             let job = now[r.below(now.len() as u64) as usize];
             if opened < jobs && r.one_in(steps + 1) {

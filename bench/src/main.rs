@@ -11,6 +11,7 @@ mod lines;
 mod logs;
 mod ours;
 mod programs;
+mod recounted;
 mod requests;
 mod speed;
 mod tried;
@@ -20,6 +21,7 @@ mod whole;
 const USE: &str = "bench differ [SEED [REQUESTS]]            the arbiter against two others
 bench verdicts [SEED [LOGS]]              the checker and the lister against two others
 bench tried FILE                          what the tried histories expect
+bench recount FILE                        what the program recount is to write, of the same text
 bench late [SEED [ASKS]]                  the second profile's arbiter against two others
 bench desk FILE                           what the text of the program desk expects, and its output
 bench desk-make SEED WINDOWS ASKS         the streams in that text
@@ -42,6 +44,7 @@ fn main() {
         Some("differ") => differ::run(number(1, 1), number(2, 10_000_000)),
         Some("verdicts") => verdicts::run(number(1, 1), number(2, 1_000_000)),
         Some("tried") => tried::run(words.get(1).expect("the file of tried histories")),
+        Some("recount") => recounted::run(words.get(1).expect("the file of tried histories")),
         Some("late") => late::run(number(1, 1), number(2, 4_000_000)),
         Some("desk") => late_text::run(words.get(1).expect("the file of histories")),
         Some("desk-make") => late_text::make(number(1, 1), number(2, 3), number(3, 160)),

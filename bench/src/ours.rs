@@ -16,6 +16,7 @@ impl Ours {
             numbers: [9; 32],
             leads: [9; 32],
             sets: [9; 512],
+            ports: [9; 3],
         });
         o.0.restart(first);
         o

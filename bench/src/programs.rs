@@ -129,6 +129,8 @@ struct Tried {
     /// How many publishes and how many adds the trial program was given, and how many of them are granted.
     published: (u64, u64),
     added: (u64, u64),
+    /// And how many opens get 8, 5 and 9: no such port, no slot, no room at the port.
+    kept_out: [u64; 3],
 }
 
 impl Tried {
@@ -358,6 +360,9 @@ impl Tried {
             sum.0 += asked;
             sum.1 += granted;
         }
+        for (code, sum) in [8, 5, 9].into_iter().zip(&mut self.kept_out) {
+            *sum += refused(input, code);
+        }
         let path = self.file("requests", input);
         let mut command = self.command("trial", &[]);
         let said = command.stdin(std::fs::File::open(path).unwrap()).output();
@@ -445,6 +450,13 @@ fn given(input: &[u8], kind: u8) -> (u64, u64) {
     sum
 }
 
+/// How many of the requests get the code.
+fn refused(input: &[u8], code: u32) -> u64 {
+    let mut b = Bounded::new(1);
+    let replies = input.chunks_exact(8).map(|q| b.ask(q.try_into().unwrap()));
+    replies.filter(|reply| reply.0 == code).count() as u64
+}
+
 pub fn run(programs: &str, seed: u64, logs: u32) -> bool {
     for name in ["checker", "lister", "trial"] {
         let path = Path::new(programs).join(name);
@@ -464,6 +476,7 @@ pub fn run(programs: &str, seed: u64, logs: u32) -> bool {
         codes: [0; 19],
         published: (0, 0),
         added: (0, 0),
+        kept_out: [0; 3],
     };
     let r = &mut Random::new(seed.wrapping_mul(17_000_003));
     t.random(r, logs);
@@ -481,6 +494,8 @@ pub fn run(programs: &str, seed: u64, logs: u32) -> bool {
         println!("the trial program was given {asked} {kind}, of which {granted} are granted");
         t.failed += (granted == 0 || granted == asked) as u32;
     }
+    println!("of its opens, {:?} get 8, 5 and 9", t.kept_out);
+    t.failed += t.kept_out.contains(&0) as u32;
     println!("{} passed, {} failed", t.passed, t.failed);
     t.failed != 0
 }

@@ -51,6 +51,17 @@ impl Random {
     }
 }
 
+/// The port that an open names: any of the three, or mostly one of them; now and then one that is none, by a little or in its low bytes not.
+pub fn port(r: &mut Random, one: bool) -> u32 {
+    let port = if one && !r.one_in(8) { 1 } else { r.below(3) } as u32;
+    match r.below(60) {
+        0 => port + 3,
+        1 => port + (256 << (8 * r.below(3))),
+        2 => r.next() as u32,
+        _ => port,
+    }
+}
+
 /// The shapes of streams.
 #[derive(Clone, Copy, PartialEq, Debug)]
 pub enum Shape {
@@ -60,14 +71,16 @@ pub enum Shape {
     Abandons,
     SlotsFull,
     NumbersOut,
+    OnePort,
 }
 
-pub const SHAPES: [Shape; 6] = [
+pub const SHAPES: [Shape; 7] = [
     Shape::FewCells,
     Shape::OneThroughout,
     Shape::BadRequests,
     Shape::Abandons,
     Shape::SlotsFull,
+    Shape::OnePort,
     Shape::NumbersOut,
 ];
 
@@ -104,6 +117,7 @@ impl Stream {
             Shape::Abandons => 10,
             Shape::SlotsFull => 33,
             Shape::NumbersOut => 20,
+            Shape::OnePort => 33,
         }
     }
 
@@ -115,6 +129,7 @@ impl Stream {
             Shape::Abandons => 12,
             Shape::SlotsFull => 96,
             Shape::NumbersOut => 40,
+            Shape::OnePort => 64,
         }
     }
 
@@ -175,14 +190,13 @@ impl Stream {
         let full = self.open.len() >= most;
         if self.open.is_empty()
             || (!full && r.one_in(5))
-            || (self.shape == Shape::SlotsFull && self.open.len() < 33 && r.one_in(3))
+            || (matches!(self.shape, Shape::SlotsFull | Shape::OnePort)
+                && self.open.len() < 33
+                && r.one_in(3))
         {
-            return request(
-                OPEN,
-                0,
-                if r.one_in(9) { r.next() as u16 } else { 0 },
-                if r.one_in(9) { r.next() as u32 } else { 0 },
-            );
+            let cell = if r.one_in(9) { r.next() as u16 } else { 0 };
+            let port = port(r, self.shape == Shape::OnePort);
+            return request(OPEN, 0, cell, port);
         }
         let keep_first = self.shape == Shape::OneThroughout;
         let from = if keep_first && self.open.len() > 1 {

@@ -5,7 +5,7 @@ use crate::requests::*;
 use crate::{judge, judge_fast, logs};
 use std::time::Duration;
 
-/// A history that goes on for ever, with so many jobs open nearly always: reads and writes on 200 cells, an end and an open now and then.
+/// A history that goes on for ever, with so many jobs open nearly always: reads and writes on 200 cells, an end and an open now and then, of port 0 or 1 by turns.
 #[derive(Clone)]
 pub struct Steady {
     random: Random,
@@ -32,7 +32,7 @@ impl Steady {
     pub fn next(&mut self) -> Request {
         let r = &mut self.random;
         let q = if (self.jobs.len() as u64) < self.open {
-            request(OPEN, 0, 0, 0)
+            request(OPEN, 0, 0, self.arbiter.emptier())
         } else {
             let job = self.jobs[r.below(self.open) as usize];
             match r.below(20) {

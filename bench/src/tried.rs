@@ -7,7 +7,7 @@ use crate::requests::*;
 use crate::whole::Whole;
 
 /// A number and its step, as in `5`, `5+1`, `512-1`.
-fn stepped(word: &str) -> (u32, u32) {
+pub fn stepped(word: &str) -> (u32, u32) {
     if let Some((first, step)) = word.split_once('+') {
         (number(first), number(step))
     } else if let Some((first, step)) = word.split_once('-') {
@@ -18,7 +18,7 @@ fn stepped(word: &str) -> (u32, u32) {
 }
 
 /// The jobs of a run, as in `7`, `7*3`, `1+1*512`, `512-1*512`.
-fn run_of(word: &str) -> Vec<u32> {
+pub fn run_of(word: &str) -> Vec<u32> {
     let (first, count) = match word.split_once('*') {
         Some((first, count)) => (first, number(count)),
         None => (word, 1),
@@ -60,6 +60,7 @@ impl States {
             [ones; 32],
             [ones; 32],
             &[ones as u64 | (ones as u64) << 32; 512],
+            [ones; 3],
         );
         States {
             now: state.clone(),
@@ -89,9 +90,13 @@ impl States {
         }
     }
 
+    fn port(&mut self, words: &[&str]) {
+        self.want.ports[number::<usize>(words[0])] = number(words[1]);
+    }
+
     fn left(&mut self, next: u64) {
         let w = &self.want;
-        self.now = Bounded::of(w.next, w.free, w.numbers, w.leads, &w.sets());
+        self.now = Bounded::of(w.next, w.free, w.numbers, w.leads, &w.sets(), w.ports);
         self.want.next = next;
         self.made = true;
     }
@@ -100,8 +105,8 @@ impl States {
     fn ask(&mut self, r: Request) -> ((u32, u32), bool) {
         let (reply, n) = (self.now.ask(r), &self.now);
         let w = &self.want;
-        let same = (n.next, n.free, n.numbers, n.leads, n.rows)
-            == (w.next, w.free, w.numbers, w.leads, w.rows);
+        let same = (n.next, n.free, n.numbers, n.leads, n.rows, n.ports)
+            == (w.next, w.free, w.numbers, w.leads, w.rows, w.ports);
         let right = same || !self.made;
         self.want = self.now.clone();
         self.made = false;
@@ -138,6 +143,7 @@ fn line(
         "state" | "full" => *states = States::start(number(words[1]), words[0] == "full", false),
         "row" => states.row(asked),
         "cells" => states.cells(asked),
+        "port" => states.port(asked),
         "left" => {
             states.left(number(words[1]));
             n.states += 1;

@@ -23,6 +23,8 @@ fn precedes(x: Granted, y: Granted) -> bool {
 pub struct Whole {
     next: u64,
     opened: Vec<u32>,
+    /// the port that each of them named
+    ports: Vec<u32>,
     ended: Vec<u32>,
     abandoned: Vec<u32>,
     history: Vec<Granted>,
@@ -38,6 +40,7 @@ impl Whole {
         Whole {
             next: first as u64,
             opened: vec![],
+            ports: vec![],
             ended: vec![],
             abandoned: vec![],
             history: vec![],
@@ -129,13 +132,24 @@ impl Whole {
                 if self.next > u32::MAX as u64 {
                     return (6, 0);
                 }
-                let open = self.opened.iter().filter(|&&j| self.is_open(j)).count();
-                if open >= 32 {
+                if job > 2 {
+                    return (8, 0);
+                }
+                let all = self.opened.iter().zip(&self.ports);
+                let open: Vec<u32> = all
+                    .filter(|(&j, _)| self.is_open(j))
+                    .map(|(_, &p)| p)
+                    .collect();
+                if open.len() >= 32 {
                     return (5, 0);
+                }
+                if open.iter().filter(|&&p| p == job).count() >= 16 {
+                    return (9, 0);
                 }
                 let number = self.next as u32;
                 self.next += 1;
                 self.opened.push(number);
+                self.ports.push(job);
                 self.grant(OPEN, number, 0)
             }
             READ | WRITE | PUBLISH | ADD => {

@@ -17,7 +17,7 @@ static uint32_t drawn(uint32_t below)
 
 static uint64_t step(reedtangle_state *s, const uint8_t *request)
 {
-    return reedtangle_step(&s->next, &s->free, s->numbers, s->leads, s->sets, request);
+    return reedtangle_step(&s->next, &s->free, s->numbers, s->leads, s->sets, s->ports, request);
 }
 
 static void put(uint8_t *r, uint32_t kind, uint32_t cell, uint32_t job)
@@ -47,7 +47,7 @@ static uint64_t one_by_one(reedtangle_state *s, const uint8_t *requests, size_t 
 static int same(const reedtangle_state *a, const reedtangle_state *b)
 {
     return a->next == b->next && a->free == b->free && memcmp(a->numbers, b->numbers, sizeof a->numbers) == 0
-        && memcmp(a->leads, b->leads, sizeof a->leads) == 0 && memcmp(a->sets, b->sets, sizeof a->sets) == 0;
+        && memcmp(a->leads, b->leads, sizeof a->leads) == 0 && memcmp(a->sets, b->sets, sizeof a->sets) == 0 && memcmp(a->ports, b->ports, sizeof a->ports) == 0;
 }
 
 int main(void)
@@ -60,7 +60,10 @@ int main(void)
     reedtangle_start(&ours, 1);
     for (size_t n = 0; n < batches; n++) {
         /* some opens, ends and publishes between batches, so that 8 to 32 jobs are open */
-        put(one, drawn(3) == 0 ? (drawn(2) == 0 ? REEDTANGLE_END : REEDTANGLE_PUBLISH) : REEDTANGLE_OPEN, drawn(40), (uint32_t)ours.next > 20 ? (uint32_t)ours.next - 1 - drawn(20) : 1);
+        uint32_t kind = drawn(3) == 0 ? (drawn(2) == 0 ? REEDTANGLE_END : REEDTANGLE_PUBLISH) : REEDTANGLE_OPEN;
+        uint32_t cell = drawn(40), last = (uint32_t)ours.next > 20 ? (uint32_t)ours.next - 1 - drawn(20) : 1;
+        /* an open takes the lowest free slot: slots 0 to 15 are of port 0, the others of port 1 */
+        put(one, kind, cell, kind == REEDTANGLE_OPEN ? (ours.free & 65535) == 0 : last);
         step(&ours, one);
         size_t items = drawn(8) == 0 ? drawn(70) : drawn(12), length = 8 * items;
         int raises = drawn(3) == 0; /* adds for the most part */

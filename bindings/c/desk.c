@@ -14,7 +14,7 @@ static int same(const reedtangle_late *a, const reedtangle_late *b)
 {
     const reedtangle_state *x = &a->state, *y = &b->state;
     return x->next == y->next && x->free == y->free && memcmp(x->numbers, y->numbers, sizeof x->numbers) == 0
-        && memcmp(x->leads, y->leads, sizeof x->leads) == 0 && memcmp(x->sets, y->sets, sizeof x->sets) == 0;
+        && memcmp(x->leads, y->leads, sizeof x->leads) == 0 && memcmp(x->sets, y->sets, sizeof x->sets) == 0 && memcmp(x->ports, y->ports, sizeof x->ports) == 0;
 }
 
 static int gives(reedtangle_late *late, uint8_t kind, uint16_t cell, uint32_t job, uint32_t code, uint32_t number)
@@ -52,6 +52,12 @@ static void worked(void)
     tell(gives(&late, 2, 256, 9, 2, 0) && gives(&late, 2, 5, 2, 3, 0) && gives(&late, 5, 0, 2, 3, 0) && publishes(&late, 2, -1, 0, 3, 0), "2 before 3, and 3 of a job that has ended");
     tell(publishes(&late, 1, 6, 255, 0, 1), "with other cells it may");
     tell(gives(&late, 1, 0, 0, 0, 3) && publishes(&late, 3, -1, 0, 0, 3), "a publish of no cell");
+    int room = 1;
+    for (uint32_t i = 4; i < 20; i++) {
+        room &= gives(&late, 1, 0, 2, 0, i);
+    }
+    tell(room && gives(&late, 1, 0, 2, 9, 0) && gives(&late, 1, 0, 3, 8, 0) && gives(&late, 1, 0, 1, 0, 20), "of port 2 the 17th gets 9, of port 3 any gets 8, and port 1 has room");
+    tell(publishes(&late, 4, -1, 0, 0, 4) && gives(&late, 1, 0, 2, 0, 21) && gives(&late, 1, 0, 2, 9, 0) && gives(&late, 5, 0, 5, 0, 5) && gives(&late, 1, 0, 2, 0, 22) && gives(&late, 1, 0, 2, 9, 0), "a publish makes room for one, and an abandon");
     reedtangle_mark_cell(cells, 9);
     reedtangle_mark_cell(cells, 200);
     reedtangle_mark_cell(cells, 4);
@@ -76,7 +82,7 @@ enum { OPENED = 1, ENDED = 2, ABANDONED = 3, JOBS = 400, ROOM = REEDTANGLE_LOG_B
 typedef struct {
     reedtangle_late late;
     uint32_t first, opened, open;
-    uint8_t stand[JOBS];
+    uint8_t stand[JOBS], port[JOBS];
     uint8_t log[ROOM];
     size_t length;
 } host;
@@ -121,6 +127,16 @@ static int has_order(uint32_t job, int abandoned, const uint8_t *more, size_t co
     return listed.place == jobs && checked.code == 0 && checked.place == jobs ? 1 : -1;
 }
 
+/* How many jobs of a port are open? */
+static uint32_t crowd(uint32_t port)
+{
+    uint32_t count = 0;
+    for (uint32_t i = 0; i < h.opened; i++) {
+        count += h.stand[i] == OPENED && h.port[i] == port;
+    }
+    return count;
+}
+
 /* The code that a request should get, by what the host knows. */
 static uint32_t right_code(const uint8_t *r, uint32_t cell, uint32_t job)
 {
@@ -128,7 +144,11 @@ static uint32_t right_code(const uint8_t *r, uint32_t cell, uint32_t job)
         return REEDTANGLE_MALFORMED;
     }
     if (r[0] == REEDTANGLE_OPEN) {
-        return (uint64_t)h.first + h.opened > 4294967295u ? REEDTANGLE_SPENT : h.open == REEDTANGLE_SLOTS ? REEDTANGLE_FULL : REEDTANGLE_GRANTED;
+        return (uint64_t)h.first + h.opened > 4294967295u ? REEDTANGLE_SPENT
+            : job >= REEDTANGLE_PORTS                     ? REEDTANGLE_NO_PORT
+            : h.open == REEDTANGLE_SLOTS                  ? REEDTANGLE_FULL
+            : crowd(job) == REEDTANGLE_PORT_SLOTS         ? REEDTANGLE_PORT_FULL
+                                                          : REEDTANGLE_GRANTED;
     }
     return r[0] == REEDTANGLE_READ && cell > 255 ? REEDTANGLE_NO_CELL : stand(job) != OPENED ? REEDTANGLE_NOT_OPEN : REEDTANGLE_GRANTED;
 }
@@ -142,7 +162,7 @@ static int request(uint32_t kind, uint32_t cell, uint32_t job, uint32_t byte1, s
     uint32_t code = right_code(r, cell, job);
     uint32_t number = code != 0 ? 0 : kind == REEDTANGLE_OPEN ? h.first + h.opened : job;
     reedtangle_reply reply = reedtangle_late_ask(&h.late, r);
-    codes[reply.code & 7] += 1;
+    codes[reply.code % 10] += 1;
     if (reply.code != code || reply.job != number || (code != 0 && !same(&before, &h.late))) {
         return 0;
     }
@@ -154,6 +174,9 @@ static int request(uint32_t kind, uint32_t cell, uint32_t job, uint32_t byte1, s
         h.opened += kind == REEDTANGLE_OPEN;
         if (kind != REEDTANGLE_READ) {
             h.stand[number - h.first] = kind == REEDTANGLE_OPEN ? OPENED : ABANDONED;
+        }
+        if (kind == REEDTANGLE_OPEN) {
+            h.port[number - h.first] = (uint8_t)job;
         }
     }
     return 1;
@@ -167,7 +190,7 @@ static int publish(uint32_t job, const uint64_t *cells, size_t *codes)
     int order = stand(job) == OPENED ? has_order(job, 0, bytes, count) : 1;
     uint32_t code = stand(job) != OPENED ? REEDTANGLE_NOT_OPEN : order == 1 ? REEDTANGLE_GRANTED : REEDTANGLE_CIRCLE;
     reedtangle_reply reply = reedtangle_late_publish(&h.late, job, cells);
-    codes[reply.code & 7] += 1;
+    codes[reply.code % 10] += 1;
     if (order < 0 || reply.code != code || reply.job != (code == 0 ? job : 0) || (code != 0 && !same(&before, &h.late))) {
         return 0;
     }
@@ -182,7 +205,7 @@ static int publish(uint32_t job, const uint64_t *cells, size_t *codes)
 
 int main(void)
 {
-    size_t codes[8] = {0}, published[8] = {0}, wrong = 0, logs = 0, none = 0, asks = 60000;
+    size_t codes[10] = {0}, published[10] = {0}, wrong = 0, logs = 0, none = 0, asks = 60000;
     worked();
     restart();
     for (size_t n = 0; n < asks; n++) {
@@ -195,7 +218,8 @@ int main(void)
         uint32_t what = drawn(100), back = drawn(100) == 0 ? drawn(100) : drawn(h.open < 6 ? 8 : 40), job = h.first + h.opened - 1 - back;
         uint32_t cell = drawn(60) == 0 ? 250 + drawn(20) : drawn(12) * 23 % 256;
         if (what < 22) {
-            wrong += !request(REEDTANGLE_OPEN, drawn(9), drawn(9), 0, codes);
+            uint32_t port = drawn(15) == 0 ? drawn(400) : drawn(4) % 3; /* port 0 more than the others, and now and then none */
+            wrong += !request(REEDTANGLE_OPEN, drawn(9), port, 0, codes);
         } else if (what < 70) {
             wrong += !request(REEDTANGLE_READ, cell, job, 0, codes);
         } else if (what < 74) {
@@ -210,11 +234,11 @@ int main(void)
             wrong += !publish(job, cells, published);
         }
     }
-    printf("%zu asks; requests by code: %zu %zu %zu %zu %zu %zu %zu %zu; publishes with 0, 3 and 7: %zu %zu %zu; %zu logs\n", asks, codes[0], codes[1], codes[2], codes[3], codes[4], codes[5], codes[6], codes[7],
+    printf("%zu asks; requests by code: %zu %zu %zu %zu %zu %zu %zu %zu %zu %zu; publishes with 0, 3 and 7: %zu %zu %zu; %zu logs\n", asks, codes[0], codes[1], codes[2], codes[3], codes[4], codes[5], codes[6], codes[7], codes[8], codes[9],
         published[0], published[3], published[7], logs);
     tell(wrong == 0, "each answer is the one that the lister and the host's own count give, and a refusal leaves the state");
     tell(none == 0 && logs > 50, "each log without the jobs still open has an order that the checker accepts");
-    tell(codes[0] > 500 && codes[1] > 500 && codes[2] > 50 && codes[3] > 500 && codes[4] == 0 && codes[5] > 20 && codes[6] > 20 && codes[7] == 0, "every code of a request came often enough to tell, 4 and 7 never");
+    tell(codes[0] > 500 && codes[1] > 500 && codes[2] > 50 && codes[3] > 500 && codes[4] == 0 && codes[5] > 20 && codes[6] > 20 && codes[7] == 0 && codes[8] > 50 && codes[9] > 20, "every code of a request came often enough to tell, 4 and 7 never");
     tell(published[0] > 500 && published[3] > 500 && published[7] > 500, "and of a publish");
     printf("%d passed, %d failed\n", passed, failed);
     return failed != 0;

@@ -36,7 +36,7 @@ static int verdict_is(reedtangle_verdict v, uint32_t code, uint32_t place)
 static int same(const reedtangle_state *a, const reedtangle_state *b)
 {
     return a->next == b->next && a->free == b->free && memcmp(a->numbers, b->numbers, sizeof a->numbers) == 0
-        && memcmp(a->leads, b->leads, sizeof a->leads) == 0 && memcmp(a->sets, b->sets, sizeof a->sets) == 0;
+        && memcmp(a->leads, b->leads, sizeof a->leads) == 0 && memcmp(a->sets, b->sets, sizeof a->sets) == 0 && memcmp(a->ports, b->ports, sizeof a->ports) == 0;
 }
 
 static uint32_t number_at(const uint8_t *bytes)
@@ -100,11 +100,11 @@ static const row night[] = {
     {2, 0, 6, 3, 0, 3}, {4, 0, 0, 3, 0, 3}, {3, 0, 6, 2, 7, 0}, {3, 0, 5, 2, 7, 0}, {4, 0, 0, 2, 0, 2},
 };
 
-/* Another one, from job 70,000: the refusals 1 to 4 and 7, and fields that are ignored. */
+/* Another one, from job 70,000: the refusals 1 to 4 and 7, and cells that are ignored. */
 static const row other[] = {
     {1, 0, 0, 0, 0, 70000},      {1, 0, 0, 0, 0, 70001},      {3, 0, 7, 70000, 0, 70000}, {2, 0, 7, 70001, 0, 70001},
     {3, 0, 9, 70001, 0, 70001},  {4, 0, 0, 70001, 0, 70001},  {2, 0, 9, 70000, 7, 0},     {5, 0, 0, 70000, 4, 0},
-    {4, 0, 65535, 70000, 0, 70000}, {2, 0, 300, 70002, 2, 0}, {1, 0, 9, 9, 0, 70002},     {2, 0, 0, 70000, 3, 0},
+    {4, 0, 65535, 70000, 0, 70000}, {2, 0, 300, 70002, 2, 0}, {1, 0, 9, 0, 0, 70002},     {2, 0, 0, 70000, 3, 0},
     {2, 1, 0, 70002, 1, 0},      {8, 0, 0, 70002, 1, 0},      {2, 0, 255, 70002, 0, 70002}, {5, 0, 0, 70002, 0, 70002},
 };
 
@@ -141,10 +141,11 @@ static void two_nights(void)
     tell(!touched, "no refusal of the two nights changed its state");
     tell(log_one.length == 72 && log_two.length == 80, "the logs have 9 records and 10");
 
-    /* every job has ended or was abandoned: nothing is held but the next number */
+    /* every job has ended or was abandoned: nothing is held but the next number, and that slots 0 and 1 were of port 0 */
     reedtangle_state fresh;
     reedtangle_start(&fresh, 4);
-    tell(same(&one, &fresh), "with no job open the state is a fresh one with the next number");
+    fresh.ports[0] = 3;
+    tell(same(&one, &fresh), "with no job open the state is a fresh one with the next number, and slots that keep their port");
 }
 
 /* An order of the first night, and orders that would not do. */
@@ -221,13 +222,14 @@ static void ends_of_ranges(void)
     uint32_t i;
     reedtangle_state before;
 
-    reedtangle_put_request(bytes, REEDTANGLE_OPEN, 0, 0);
     reedtangle_start(&one, 0);
     for (i = 0; i < REEDTANGLE_SLOTS; i++) {
+        reedtangle_put_request(bytes, REEDTANGLE_OPEN, 0, i / REEDTANGLE_PORT_SLOTS);
         good &= reply_is(reedtangle_ask(&one, bytes), REEDTANGLE_GRANTED, i);
     }
-    tell(good, "32 opens from number 0");
+    tell(good, "32 opens from number 0, 16 of port 0 and 16 of port 1");
     before = one;
+    reedtangle_put_request(bytes, REEDTANGLE_OPEN, 0, 2);
     good = reply_is(reedtangle_ask(&one, bytes), REEDTANGLE_FULL, 0);
     tell(good && same(&one, &before), "the 33rd open gets 5 and changes nothing");
 
@@ -238,10 +240,63 @@ static void ends_of_ranges(void)
     tell(good && same(&two, &before), "after the last number an open gets 6 and changes nothing");
 }
 
+/*
+ * Ports. Of port 1 the 17th open gets 9 while the others have room; 8 before 5, 5 before 9, 6 before 8. An end, an abandon and a publish make room for one each, and leave the slots
+ * with their ports: slot 1 goes on to port 0 with job 18.
+ */
+static void ports(void)
+{
+    static const row rows[] = {
+        {1, 0, 0, 1, 9, 0}, {1, 0, 7, 3, 8, 0}, {1, 0, 0, 257, 8, 0}, {1, 1, 0, 3, 1, 0}, {1, 0, 0, 2, 0, 17}, {4, 0, 0, 17, 0, 17}, {1, 0, 0, 1, 9, 0}, {4, 0, 0, 2, 0, 2},
+        {1, 0, 0, 0, 0, 18}, {1, 0, 0, 1, 0, 19}, {1, 0, 0, 1, 9, 0}, {5, 0, 0, 3, 0, 3}, {1, 0, 0, 1, 0, 20}, {6, 0, 5, 4, 0, 4}, {1, 0, 0, 1, 0, 21}, {1, 0, 0, 1, 9, 0},
+    };
+    uint8_t bytes[8];
+    int good = 1, touched = 0;
+    size_t i;
+    static host_log log;
+
+    reedtangle_start(&one, 1);
+    log.length = 0;
+    reedtangle_put_request(bytes, REEDTANGLE_OPEN, 0, 1);
+    for (i = 0; i < REEDTANGLE_PORT_SLOTS; i++) {
+        good &= reply_is(ask(&one, &log, bytes, &touched), REEDTANGLE_GRANTED, (uint32_t)i + 1);
+    }
+    for (i = 0; i < sizeof rows / sizeof rows[0]; i++) {
+        put_row(bytes, &rows[i]);
+        good &= reply_is(ask(&one, &log, bytes, &touched), rows[i].want_code, rows[i].want_job);
+    }
+    tell(good && !touched, "ports: 16 opens and 16 replies more as worked out by hand, and no refusal changed the state");
+    /* jobs 19, 20 and 21 have the slots 16, 2 and 3, job 18 has slot 1 */
+    good = one.ports[0] == 2 && one.ports[1] == 0x1fffd && one.ports[2] == 0 && one.free == 0xfffe0000;
+    tell(good, "the slots of each port as worked out by hand");
+
+    for (i = 22; i <= 36; i++) {
+        reedtangle_put_request(bytes, REEDTANGLE_OPEN, 0, 2);
+        good &= reply_is(ask(&one, &log, bytes, &touched), REEDTANGLE_GRANTED, (uint32_t)i);
+    }
+    static const row full[] = {{1, 0, 0, 3, 8, 0}, {1, 0, 0, 1, 5, 0}, {1, 0, 0, 2, 5, 0}, {5, 0, 0, 18, 0, 18}, {1, 0, 0, 1, 9, 0}, {1, 0, 0, 2, 0, 37}, {1, 0, 0, 0, 5, 0}};
+    for (i = 0; i < sizeof full / sizeof full[0]; i++) {
+        put_row(bytes, &full[i]);
+        good &= reply_is(ask(&one, &log, bytes, &touched), full[i].want_code, full[i].want_job);
+    }
+    tell(good && !touched && one.free == 0, "with 32 jobs open: 8 before 5, and 5 before 9");
+    good = log.length == 8 * 43 && number_at(log.bytes + 4) == 1 && log.bytes[8 * 42] == REEDTANGLE_OPEN && number_at(log.bytes + 8 * 42 + 4) == 37;
+    tell(good, "the log has 43 records, and an open has its number there and not its port");
+
+    reedtangle_start(&two, UINT32_MAX);
+    reedtangle_put_request(bytes, REEDTANGLE_OPEN, 0, 3);
+    good = reply_is(reedtangle_ask(&two, bytes), REEDTANGLE_NO_PORT, 0);
+    reedtangle_put_request(bytes, REEDTANGLE_OPEN, 0, 2);
+    good &= reply_is(reedtangle_ask(&two, bytes), REEDTANGLE_GRANTED, UINT32_MAX);
+    reedtangle_put_request(bytes, REEDTANGLE_OPEN, 0, 3);
+    good &= reply_is(reedtangle_ask(&two, bytes), REEDTANGLE_SPENT, 0);
+    tell(good, "6 before 8");
+}
+
 /* What the fields of a state hold, number by number. */
 static void fields_by_hand(void)
 {
-    static const row rows[] = {{1, 0, 0, 0, 0, 100}, {1, 0, 0, 0, 0, 101}, {2, 0, 5, 101, 0, 101}, {3, 0, 69, 101, 0, 101}, {3, 0, 5, 100, 0, 100}};
+    static const row rows[] = {{1, 0, 0, 0, 0, 100}, {1, 0, 0, 2, 0, 101}, {2, 0, 5, 101, 0, 101}, {3, 0, 69, 101, 0, 101}, {3, 0, 5, 100, 0, 100}};
     reedtangle_state want;
     uint8_t bytes[8];
     int good = 1;
@@ -263,7 +318,9 @@ static void fields_by_hand(void)
     want.sets[1 * 16 + 0] = 1u << 5;        /* own used of slot 1: cell 5, read */
     want.sets[1 * 16 + 1] = 1u << 5;        /* and, in the second word, cell 64 + 5, written */
     want.sets[1 * 16 + 5] = 1u << 5;        /* own altered of slot 1, second word: cell 64 + 5 */
-    tell(good && same(&one, &want), "two open jobs: next, free, numbers, leads and own sets as worked out by hand");
+    want.ports[0] = 1;                      /* slot 0 is of port 0 */
+    want.ports[2] = 2;                      /* slot 1 is of port 2 */
+    tell(good && same(&one, &want), "two open jobs: next, free, numbers, leads, own sets and ports as worked out by hand");
 
     reedtangle_put_request(bytes, REEDTANGLE_END, 0, 100);
     good = reply_is(reedtangle_ask(&one, bytes), REEDTANGLE_GRANTED, 100);
@@ -276,8 +333,10 @@ static void fields_by_hand(void)
     want.sets[1 * 16 + 12] = 1u << 5;       /* past altered of slot 1: cell 5 */
     tell(good && same(&one, &want), "one of them ended: its slot is blank, and the past of the other has its write");
 
-    reedtangle_put_request(bytes, REEDTANGLE_OPEN, 0, 0);
+    reedtangle_put_request(bytes, REEDTANGLE_OPEN, 0, 1);
     good = reply_is(reedtangle_ask(&one, bytes), REEDTANGLE_GRANTED, 102);
+    want.ports[0] = 0;                      /* slot 0 goes from port 0 to port 1 */
+    want.ports[1] = 1;
     want.next = 103;
     want.free = 0xfffffffc;
     want.numbers[0] = 102;
@@ -363,6 +422,7 @@ static void adds(void)
     memset(&want, 0, sizeof want);
     want.next = 4;
     want.free = 0xfffffffc;
+    want.ports[0] = 7;                      /* slots 0 to 2 are of port 0, that of job 3 too, which has ended */
     for (i = 0; i < 2; i++) {
         want.numbers[i] = (uint32_t)i + 1;
         want.sets[i * 16 + 4] = 3u << 9;    /* own altered: cells 9 and 10 */
@@ -419,7 +479,7 @@ static void replay_by_hand(void)
 
 /* ---- many requests by a simple rule */
 
-enum { MANY = 2000, ROUNDS = 5, CODES = 8 };
+enum { MANY = 2000, ROUNDS = 5, CODES = 10 };
 
 typedef struct {
     reedtangle_state state;
@@ -439,13 +499,17 @@ static uint32_t below(uint32_t n)
     return (seed >> 8) % n;
 }
 
-/* The rule: few cells, jobs that are open, and now and then any job, a wrong cell or a wrong byte. */
+/* The rule: few cells, jobs that are open, port 0 more than the others, and now and then any job, a wrong cell, no port or a wrong byte. */
 static void make_request(uint8_t *bytes, const host *h)
 {
     static const uint8_t kinds[16] = {1, 1, 1, 2, 2, 2, 2, 2, 3, 3, 7, 7, 4, 5, 6, 6};
     uint32_t any = below(20), cell = below(40) == 0 ? 250 + below(20) : below(24);
     uint32_t job = any == 0 || h->count == 0 ? h->first + below(h->opened + 2) : h->open[below(h->count)];
-    reedtangle_put_request(bytes, kinds[below(16)], (uint16_t)cell, job);
+    uint8_t kind = kinds[below(16)];
+    if (kind == REEDTANGLE_OPEN) {
+        job = below(30) == 0 ? 3 + below(400) : below(4) % 3;
+    }
+    reedtangle_put_request(bytes, kind, (uint16_t)cell, job);
     if (below(100) == 0) {
         uint32_t at = below(2);
         bytes[at] = (uint8_t)below(256);
@@ -607,7 +671,7 @@ static void many(int round)
 int main(void)
 {
     /* the Rust tests make the same requests and expect the same; 6 is tried by hand */
-    static const unsigned long want[CODES] = {13460, 221, 275, 1177, 694, 454, 0, 3719};
+    static const unsigned long want[CODES] = {13483, 160, 240, 1316, 640, 334, 0, 3662, 124, 41};
     int round, all = 1;
     size_t i;
     printf("a state is %zu bytes\n", sizeof(reedtangle_state));
@@ -615,6 +679,7 @@ int main(void)
     orders_by_hand();
     logs_by_hand();
     ends_of_ranges();
+    ports();
     fields_by_hand();
     publishes();
     adds();

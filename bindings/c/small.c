@@ -37,6 +37,7 @@ static void draw(uint64_t seed, uint32_t most)
         uint32_t what = drawn(&seed, 100), kind, job = 0, at = 0, cell = drawn(&seed, 64);
         if (held < most && (held == 0 || what < 40)) {
             kind = REEDTANGLE_OPEN;
+            job = (state.free & 65535) == 0; /* slots 0 to 15 are of port 0, the others of port 1 */
         } else {
             at = drawn(&seed, held);
             job = jobs[at];
@@ -66,6 +67,7 @@ typedef struct {
     uint64_t next;
     uint32_t free, numbers[32], leads[32];
     uint64_t sets[512], answers[REQUESTS];
+    uint32_t ports[3];
 } run;
 
 static run within, outside;
@@ -75,9 +77,9 @@ static uint32_t replay_code;
 
 static void ask(run *r)
 {
-    reedtangle_fresh(1, &r->next, &r->free, r->numbers, r->leads, r->sets);
+    reedtangle_fresh(1, &r->next, &r->free, r->numbers, r->leads, r->sets, r->ports);
     for (size_t i = 0; i < REQUESTS; i++) {
-        r->answers[i] = reedtangle_step(&r->next, &r->free, r->numbers, r->leads, r->sets, requests + 8 * i);
+        r->answers[i] = reedtangle_step(&r->next, &r->free, r->numbers, r->leads, r->sets, r->ports, requests + 8 * i);
     }
 }
 
@@ -91,7 +93,8 @@ static void *small(void *unused)
 static int same_state(void)
 {
     return within.next == outside.next && within.free == outside.free && memcmp(within.numbers, outside.numbers, sizeof within.numbers) == 0
-        && memcmp(within.leads, outside.leads, sizeof within.leads) == 0 && memcmp(within.sets, outside.sets, sizeof within.sets) == 0;
+        && memcmp(within.leads, outside.leads, sizeof within.leads) == 0 && memcmp(within.sets, outside.sets, sizeof within.sets) == 0
+        && memcmp(within.ports, outside.ports, sizeof within.ports) == 0;
 }
 
 static void trial(uint32_t most)

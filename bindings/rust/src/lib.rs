@@ -16,7 +16,7 @@
 //!
 //! let (a, b) = (Job(1), Job(2));
 //! let (mut arbiter, mut log, mut order) = (Arbiter::new(1), Vec::new(), [0; 512]);
-//! for ask in [request::open(), request::open(), request::read(b, 5), request::write(a, 5), request::end(a)] {
+//! for ask in [request::open(0), request::open(2), request::read(b, 5), request::write(a, 5), request::end(a)] {
 //!     log.extend(record(ask, arbiter.ask(ask).unwrap()));
 //! }
 //! assert_eq!(arbiter.write(b, 5), Err(Refusal::Circle));
@@ -38,6 +38,7 @@ extern "C" {
         numbers: *mut [u32; 32],
         leads: *mut [u32; 32],
         sets: *mut [u64; 512],
+        ports: *mut [u32; 3],
     );
     fn reedtangle_step(
         next: *mut u64,
@@ -45,6 +46,7 @@ extern "C" {
         numbers: *mut [u32; 32],
         leads: *mut [u32; 32],
         sets: *mut [u64; 512],
+        ports: *mut [u32; 3],
         request: *const [u8; 8],
     ) -> u64;
     fn reedtangle_replay(
@@ -69,6 +71,7 @@ extern "C" {
         numbers: *mut [u32; 32],
         leads: *mut [u32; 32],
         sets: *mut [u64; 512],
+        ports: *mut [u32; 3],
         request: *const [u8; 8],
     ) -> u64;
     fn reedtangle_publish(
@@ -91,6 +94,10 @@ extern "C" {
 
 /// At most so many jobs are open at once.
 pub const SLOTS: usize = 32;
+/// Ports are numbered 0 to 2.
+pub const PORTS: usize = 3;
+/// At most so many jobs of one port are open at once.
+pub const PORT_SLOTS: usize = 16;
 /// Cells are numbered 0 to 255, so that a `u8` is always a cell.
 pub const CELLS: usize = 256;
 /// A log has at most so many records of eight bytes.
@@ -112,7 +119,8 @@ impl fmt::Display for Job {
 
 // ---- requests and records
 
-/// Requests: eight bytes each. Byte 0 is the kind, byte 1 is 0, bytes 2 and 3 are the cell and bytes 4 to 7 the job, low byte first.
+/// Requests: eight bytes each. Byte 0 is the kind, byte 1 is 0, bytes 2 and 3 are the cell and bytes 4 to 7 the job, low byte first; of an open
+/// these four are its port.
 pub mod request {
     use crate::Job;
 
@@ -123,9 +131,9 @@ pub mod request {
         [kind, 0, c[0], c[1], j[0], j[1], j[2], j[3]]
     }
 
-    /// Opens a job; the answer has its number.
-    pub const fn open() -> [u8; 8] {
-        of(1, 0, 0)
+    /// Opens a job of a port, 0 to 2; the answer has its number.
+    pub const fn open(port: u32) -> [u8; 8] {
+        of(1, 0, port)
     }
 
     /// A read of a cell.
@@ -202,6 +210,10 @@ pub enum Refusal {
     Spent = 6,
     /// 7: with this read, add, or write, a publish's too, no order of the jobs would do.
     Circle = 7,
+    /// 8: an open whose port is above 2.
+    NoPort = 8,
+    /// 9: an open while 16 jobs of its port are open.
+    PortFull = 9,
 }
 
 impl Refusal {
@@ -210,7 +222,7 @@ impl Refusal {
         self as u32
     }
 
-    /// The refusal that has the code, 1 to 7.
+    /// The refusal that has the code, 1 to 9.
     #[inline]
     pub const fn from_code(code: u32) -> Option<Refusal> {
         Some(match code {
@@ -221,6 +233,8 @@ impl Refusal {
             5 => Refusal::Full,
             6 => Refusal::Spent,
             7 => Refusal::Circle,
+            8 => Refusal::NoPort,
+            9 => Refusal::PortFull,
             _ => return None,
         })
     }
@@ -236,13 +250,15 @@ impl fmt::Display for Refusal {
             Refusal::Full => "32 jobs are open",
             Refusal::Spent => "the last job number was issued",
             Refusal::Circle => "no order of the jobs would do",
+            Refusal::NoPort => "no such port",
+            Refusal::PortFull => "16 jobs of the port are open",
         })
     }
 }
 
 impl Error for Refusal {}
 
-/// What an arbiter holds: 4,368 bytes of plain numbers, to be copied, saved and read back at will.
+/// What an arbiter holds: 4,384 bytes of plain numbers, to be copied, saved and read back at will.
 #[derive(Clone, PartialEq, Eq, Hash, Debug)]
 #[repr(C)]
 pub struct State {
@@ -257,10 +273,12 @@ pub struct State {
     /// Sixteen words a slot, four a cell set: own used, own altered, past used, past altered. Used is read or written, altered is written or
     /// added to.
     pub sets: [u64; 512],
+    /// Bit i of the p-th: slot i is of port p. A slot keeps its port when its job is gone, and counts while it is open.
+    pub ports: [u32; 3],
 }
 
 fn fresh(first: u32, s: &mut State) {
-    // Five fields of one value: they do not overlap, and each is as large as its type says.
+    // Six fields of one value: they do not overlap, and each is as large as its type says.
     unsafe {
         reedtangle_fresh(
             first,
@@ -269,6 +287,7 @@ fn fresh(first: u32, s: &mut State) {
             &mut s.numbers,
             &mut s.leads,
             &mut s.sets,
+            &mut s.ports,
         )
     };
 }
@@ -288,6 +307,7 @@ impl Arbiter {
             numbers: [0; 32],
             leads: [0; 32],
             sets: [0; 512],
+            ports: [0; 3],
         };
         fresh(first, &mut state);
         Arbiter { state }
@@ -324,7 +344,7 @@ impl Arbiter {
     #[inline]
     pub fn answer(&mut self, request: [u8; 8]) -> (u32, u32) {
         let s = &mut self.state;
-        // Five fields of one value and a request apart from it: they do not overlap, and each is as large as its type says.
+        // Six fields of one value and a request apart from it: they do not overlap, and each is as large as its type says.
         apart(unsafe {
             reedtangle_step(
                 &mut s.next,
@@ -332,14 +352,17 @@ impl Arbiter {
                 &mut s.numbers,
                 &mut s.leads,
                 &mut s.sets,
+                &mut s.ports,
                 &request,
             )
         })
     }
 
-    /// Asks to open a job.
-    pub fn open(&mut self) -> Result<Job, Refusal> {
-        self.ask(request::open())
+    /// Asks to open a job of a port, 0 to 2.
+    ///
+    /// The refusals in their sequence: [`Refusal::Spent`], [`Refusal::NoPort`], [`Refusal::Full`], [`Refusal::PortFull`].
+    pub fn open(&mut self, port: u32) -> Result<Job, Refusal> {
+        self.ask(request::open(port))
     }
 
     /// Asks to read a cell.
@@ -423,7 +446,7 @@ pub fn published(job: Job, cells: CellSet) -> impl Iterator<Item = u8> {
 /// use reedtangle::{CellSet, LateArbiter, Refusal};
 ///
 /// let mut desk = LateArbiter::new(1);
-/// let (a, b) = (desk.open().unwrap(), desk.open().unwrap());
+/// let (a, b) = (desk.open(0).unwrap(), desk.open(0).unwrap());
 /// for job in [a, b] {
 ///     desk.read(job, 5).unwrap();
 /// }
@@ -472,7 +495,7 @@ impl LateArbiter {
     #[inline]
     pub fn answer(&mut self, request: [u8; 8]) -> (u32, u32) {
         let s = &mut self.state;
-        // Five fields of one value and a request apart from it: they do not overlap, and each is as large as its type says.
+        // Six fields of one value and a request apart from it: they do not overlap, and each is as large as its type says.
         apart(unsafe {
             reedtangle_late_step(
                 &mut s.next,
@@ -480,6 +503,7 @@ impl LateArbiter {
                 &mut s.numbers,
                 &mut s.leads,
                 &mut s.sets,
+                &mut s.ports,
                 &request,
             )
         })
@@ -513,9 +537,11 @@ impl LateArbiter {
         })
     }
 
-    /// Asks to open a job.
-    pub fn open(&mut self) -> Result<Job, Refusal> {
-        self.ask(request::open())
+    /// Asks to open a job of a port, 0 to 2.
+    ///
+    /// The refusals in their sequence: [`Refusal::Spent`], [`Refusal::NoPort`], [`Refusal::Full`], [`Refusal::PortFull`].
+    pub fn open(&mut self, port: u32) -> Result<Job, Refusal> {
+        self.ask(request::open(port))
     }
 
     /// Asks to read a cell.

@@ -31,7 +31,7 @@ fn sets() {
 fn worked() {
     let mut desk = LateArbiter::new(1);
     let [a, b, c] = [1, 2, 3].map(Job);
-    assert_eq!([desk.open(), desk.open()], [Ok(a), Ok(b)]);
+    assert_eq!([desk.open(0), desk.open(1)], [Ok(a), Ok(b)]);
     assert_eq!([desk.read(a, 5), desk.read(b, 5)], [Ok(a), Ok(b)]);
     assert_eq!(desk.publish(b, CellSet::of(&[5, 6])), Ok(b));
     let before = desk.clone();
@@ -40,7 +40,7 @@ fn worked() {
     }
     assert_eq!(desk, before);
     // a before b by cell 5 and after it by cell 6: an arbiter of the first profile refuses the read
-    assert_eq!(desk.open(), Ok(c));
+    assert_eq!(desk.open(0), Ok(c));
     assert_eq!(desk.read(a, 6), Ok(a));
     assert_eq!(desk.publish(a, CellSet::NONE), Err(Refusal::Circle));
     assert_eq!(desk.abandon(a), Ok(a));
@@ -57,6 +57,38 @@ fn worked() {
     assert_eq!(numbers(desk.ask(request::of(2, 255, 3))), (3, 0));
 }
 
+/// Of one port 16 jobs are open at most, in this profile too; a publish and an abandon make room for one.
+#[test]
+fn ports() {
+    let mut desk = LateArbiter::new(1);
+    for i in 1..=PORT_SLOTS as u32 {
+        assert_eq!(desk.open(2), Ok(Job(i)));
+    }
+    let before = desk.clone();
+    assert_eq!(desk.open(2), Err(Refusal::PortFull));
+    assert_eq!(desk.open(3), Err(Refusal::NoPort));
+    assert_eq!(desk, before);
+    assert_eq!(desk.open(0), Ok(Job(17)));
+    assert_eq!(desk.publish(Job(1), CellSet::NONE), Ok(Job(1)));
+    assert_eq!(desk.open(2), Ok(Job(18)));
+    assert_eq!(desk.open(2), Err(Refusal::PortFull));
+    assert_eq!(desk.abandon(Job(2)), Ok(Job(2)));
+    assert_eq!(desk.open(1), Ok(Job(19)));
+    assert_eq!(desk.open(2), Ok(Job(20)));
+    assert_eq!(desk.open(2), Err(Refusal::PortFull));
+    // slot 0 is that of job 18, slot 1 that of job 19, slot 16 that of job 17, slot 17 that of job 20
+    assert_eq!(desk.state().ports, [0x10000, 2, 0x2fffd]);
+    for i in 21..=34 {
+        assert_eq!(desk.open(i % 2), Ok(Job(i)));
+    }
+    assert_eq!(desk.open(3), Err(Refusal::NoPort));
+    assert_eq!(desk.open(2), Err(Refusal::Full));
+    let mut last = LateArbiter::new(u32::MAX);
+    assert_eq!(last.open(3), Err(Refusal::NoPort));
+    assert_eq!(last.open(0), Ok(Job(u32::MAX)));
+    assert_eq!(last.open(3), Err(Refusal::Spent));
+}
+
 /// The log that a host keeps, and the same without the jobs still open.
 #[test]
 fn logs() {
@@ -70,7 +102,7 @@ fn logs() {
     for _ in 0..2000 {
         let job = Job(10 + below(opened as u64 + 1) as u32);
         let ask = match below(8) {
-            0 if opened < 400 => request::open(),
+            0 if opened < 400 => request::open(below(3) as u32),
             7 => {
                 let set = CellSet::of(&[below(9) as u8 * 30, below(9) as u8 * 30]);
                 match desk.publish(job, set) {

@@ -52,7 +52,7 @@ const NIGHT: [Row; 11] = [
     (4, 0, 0, 2, 0, 2),
 ];
 
-/// Another one, from job 70,000: the refusals 1 to 4 and 7, and fields that are ignored.
+/// Another one, from job 70,000: the refusals 1 to 4 and 7, and cells that are ignored.
 const OTHER: [Row; 16] = [
     (1, 0, 0, 0, 0, 70000),
     (1, 0, 0, 0, 0, 70001),
@@ -64,7 +64,7 @@ const OTHER: [Row; 16] = [
     (5, 0, 0, 70000, 4, 0),
     (4, 0, 65535, 70000, 0, 70000),
     (2, 0, 300, 70002, 2, 0),
-    (1, 0, 9, 9, 0, 70002),
+    (1, 0, 9, 0, 0, 70002),
     (2, 0, 0, 70000, 3, 0),
     (2, 1, 0, 70002, 1, 0),
     (8, 0, 0, 70002, 1, 0),
@@ -85,9 +85,12 @@ fn two_nights() -> (Vec<u8>, Vec<u8>) {
         let reply = numbers(ask(&mut two, &mut log_two, bytes(row)));
         assert_eq!(reply, (row.4, row.5), "request {i} of the other night");
     }
-    // every job has ended or was abandoned: nothing is held but the next number
-    assert_eq!(one, Arbiter::new(4));
-    assert_eq!(two, Arbiter::new(70003));
+    // every job has ended or was abandoned: nothing is held but the next number, and that slots 0 and 1 were of port 0
+    for (arbiter, next) in [(&one, 4), (&two, 70003)] {
+        let mut want = Arbiter::new(next).state().clone();
+        want.ports[0] = 3;
+        assert_eq!(*arbiter.state(), want);
+    }
     (log_one, log_two)
 }
 
@@ -106,8 +109,8 @@ fn a_restart() {
     assert_ne!(arbiter, Arbiter::new(4));
     arbiter.restart(u32::MAX);
     assert_eq!(arbiter, Arbiter::new(u32::MAX));
-    assert_eq!(arbiter.open(), Ok(Job(u32::MAX)));
-    assert_eq!(arbiter.open(), Err(Refusal::Spent));
+    assert_eq!(arbiter.open(0), Ok(Job(u32::MAX)));
+    assert_eq!(arbiter.open(0), Err(Refusal::Spent));
 }
 
 #[test]
@@ -163,11 +166,11 @@ fn logs_by_hand() {
 
 #[test]
 fn codes_and_places() {
-    let codes: Vec<u32> = (0..10)
+    let codes: Vec<u32> = (0..12)
         .filter_map(Refusal::from_code)
         .map(Refusal::code)
         .collect();
-    assert_eq!(codes, [1, 2, 3, 4, 5, 6, 7]);
+    assert_eq!(codes, [1, 2, 3, 4, 5, 6, 7, 8, 9]);
     assert_eq!(NoRoom.code(), 24);
     let faults = [
         Fault::Length,
@@ -203,17 +206,72 @@ fn codes_and_places() {
 fn ends_of_ranges() {
     let mut one = Arbiter::new(0);
     for i in 0..SLOTS as u32 {
-        assert_eq!(one.open(), Ok(Job(i)));
+        assert_eq!(one.open(i / PORT_SLOTS as u32), Ok(Job(i)));
     }
     let before = one.clone();
-    assert_eq!(one.open(), Err(Refusal::Full));
+    assert_eq!(one.open(2), Err(Refusal::Full));
     assert_eq!(one, before);
 
     let mut two = Arbiter::new(u32::MAX);
-    assert_eq!(two.open(), Ok(Job(u32::MAX)));
+    assert_eq!(two.open(2), Ok(Job(u32::MAX)));
     let before = two.clone();
-    assert_eq!(two.open(), Err(Refusal::Spent));
+    assert_eq!(two.open(2), Err(Refusal::Spent));
     assert_eq!(two, before);
+}
+
+/// Of port 1 the 17th open gets 9 while the others have room; 8 before 5, 5 before 9, 6 before 8. An end, an abandon and a publish make room for one each, and leave the
+/// slots with their ports: slot 1 goes on to port 0 with job 18.
+#[test]
+fn ports() {
+    const ROWS: [Row; 16] = [
+        (1, 0, 0, 1, 9, 0),
+        (1, 0, 7, 3, 8, 0),
+        (1, 0, 0, 257, 8, 0),
+        (1, 1, 0, 3, 1, 0),
+        (1, 0, 0, 2, 0, 17),
+        (4, 0, 0, 17, 0, 17),
+        (1, 0, 0, 1, 9, 0),
+        (4, 0, 0, 2, 0, 2),
+        (1, 0, 0, 0, 0, 18),
+        (1, 0, 0, 1, 0, 19),
+        (1, 0, 0, 1, 9, 0),
+        (5, 0, 0, 3, 0, 3),
+        (1, 0, 0, 1, 0, 20),
+        (6, 0, 5, 4, 0, 4),
+        (1, 0, 0, 1, 0, 21),
+        (1, 0, 0, 1, 9, 0),
+    ];
+    let (mut one, mut log) = (Arbiter::new(1), Vec::new());
+    for i in 1..=PORT_SLOTS as u32 {
+        assert_eq!(ask(&mut one, &mut log, request::open(1)), Ok(Job(i)));
+    }
+    for (i, row) in ROWS.iter().enumerate() {
+        let reply = numbers(ask(&mut one, &mut log, bytes(row)));
+        assert_eq!(reply, (row.4, row.5), "request {i}");
+    }
+    // jobs 19, 20 and 21 have the slots 16, 2 and 3, job 18 has slot 1
+    assert_eq!(one.state().ports, [2, 0x1fffd, 0]);
+    assert_eq!(one.state().free, 0xfffe_0000);
+    for i in 22..=36 {
+        assert_eq!(ask(&mut one, &mut log, request::open(2)), Ok(Job(i)));
+    }
+    let before = one.clone();
+    assert_eq!(one.open(3), Err(Refusal::NoPort));
+    assert_eq!(one.open(1), Err(Refusal::Full));
+    assert_eq!(one.open(2), Err(Refusal::Full));
+    assert_eq!(one, before);
+    assert_eq!(one.abandon(Job(18)), Ok(Job(18)));
+    assert_eq!(one.open(1), Err(Refusal::PortFull));
+    assert_eq!(one.open(2), Ok(Job(37)));
+    assert_eq!(one.open(0), Err(Refusal::Full));
+    // in a log an open has its number, and not its port
+    assert_eq!(log.len(), 8 * 41);
+    assert_eq!(log[8 * 40..], request::of(1, 0, 36));
+
+    let mut two = Arbiter::new(u32::MAX);
+    assert_eq!(two.open(3), Err(Refusal::NoPort));
+    assert_eq!(two.open(2), Ok(Job(u32::MAX)));
+    assert_eq!(two.open(3), Err(Refusal::Spent));
 }
 
 #[test]
@@ -233,9 +291,9 @@ fn replay_by_hand() {
 /// What the fields of a state hold, number by number; and a state that is kept and gone on from.
 #[test]
 fn states() {
-    assert_eq!(std::mem::size_of::<State>(), 4368);
+    assert_eq!(std::mem::size_of::<State>(), 4384);
     let mut one = Arbiter::new(100);
-    let [a, b] = [one.open(), one.open()].map(|job| job.unwrap());
+    let [a, b] = [one.open(0), one.open(2)].map(|job| job.unwrap());
     assert_eq!(one.read(b, 5), Ok(b));
     assert_eq!(one.write(b, 69), Ok(b));
     assert_eq!(one.write(a, 5), Ok(a));
@@ -245,6 +303,7 @@ fn states() {
         numbers: [0; 32],
         leads: [0; 32],
         sets: [0; 512],
+        ports: [1, 0, 2], // slot 0 is of port 0, slot 1 of port 2
     };
     want.numbers[..2].copy_from_slice(&[100, 101]);
     want.leads[1] = 1; // job 101, in slot 1, leads to job 100, in slot 0
@@ -269,7 +328,8 @@ fn states() {
     assert_eq!(two.write(b, 5), Err(Refusal::Circle));
     assert_eq!(*two.state(), want);
 
-    assert_eq!(two.open(), Ok(Job(102)));
+    assert_eq!(two.open(1), Ok(Job(102)));
+    want.ports = [0, 1, 2]; // slot 0 goes from port 0 to port 1
     want.next = 103;
     want.free = 0xffff_fffc;
     want.numbers[0] = 102;
@@ -337,7 +397,7 @@ fn publishes() {
     assert_eq!(list_order(&log, &mut list), Err(NoList::Log(fault)));
     assert_eq!(check_order(&log, &list), Err(BadOrder::Log(fault)));
     // by name
-    let job = one.open().unwrap();
+    let job = one.open(0).unwrap();
     assert_eq!(one.publish(job, 255), Ok(job));
     assert_eq!(one.publish(job, 255), Err(Refusal::NotOpen));
 }
@@ -379,6 +439,7 @@ fn adds() {
         numbers: [0; 32],
         leads: [0; 32],
         sets: [0; 512],
+        ports: [7, 0, 0],
     };
     for i in 0..2 {
         want.numbers[i] = i as u32 + 1;
@@ -428,9 +489,10 @@ fn any_content() {
         numbers: [7; 32],
         leads: [u32::MAX; 32],
         sets: [u64::MAX; 512],
+        ports: [u32::MAX; 3],
     };
     let mut odd = Arbiter::from_state(full);
-    assert_eq!(odd.open(), Err(Refusal::Spent));
+    assert_eq!(odd.open(0), Err(Refusal::Spent));
     assert_eq!(odd.read(Job(7), 0), Err(Refusal::Circle));
     assert_eq!(odd.abandon(Job(7)), Err(Refusal::HasWritten));
     assert_eq!(odd.read(Job(8), 0), Err(Refusal::NotOpen));
@@ -475,7 +537,7 @@ impl Host {
         }
     }
 
-    /// Few cells, jobs that are open, and now and then any job, a wrong cell or a wrong byte.
+    /// Few cells, jobs that are open, port 0 more than the others, and now and then any job, a wrong cell, no port or a wrong byte.
     fn make_request(&self, rule: &mut Rule) -> [u8; 8] {
         const KINDS: [u8; 16] = [1, 1, 1, 2, 2, 2, 2, 2, 3, 3, 7, 7, 4, 5, 6, 6];
         let any = rule.below(20);
@@ -484,12 +546,20 @@ impl Host {
         } else {
             rule.below(24)
         };
-        let job = if any == 0 || self.open.is_empty() {
+        let mut job = if any == 0 || self.open.is_empty() {
             self.first + rule.below(self.opened + 2)
         } else {
             self.open[rule.below(self.open.len() as u32) as usize]
         };
-        let mut bytes = request::of(KINDS[rule.below(16) as usize], cell as u16, job);
+        let kind = KINDS[rule.below(16) as usize];
+        if kind == 1 {
+            job = if rule.below(30) == 0 {
+                3 + rule.below(400)
+            } else {
+                rule.below(4) % 3
+            };
+        }
+        let mut bytes = request::of(kind, cell as u16, job);
         if rule.below(100) == 0 {
             let at = rule.below(2) as usize;
             bytes[at] = rule.below(256) as u8;
@@ -553,7 +623,7 @@ fn seven_is_right(log: &mut Vec<u8>, request: [u8; 8]) {
 
 #[test]
 fn many_requests() {
-    let mut codes = [0; 8];
+    let mut codes = [0; 10];
     for round in 1..=5 {
         let mut rule = Rule(round);
         let mut hosts = [Host::new(1), Host::new(4_000_000_000 + round)];
@@ -610,5 +680,5 @@ fn many_requests() {
     }
     println!("replies by code: {codes:?}");
     // the C program makes the same requests and expects the same; 6 is tried by hand
-    assert_eq!(codes, [13460, 221, 275, 1177, 694, 454, 0, 3719]);
+    assert_eq!(codes, [13483, 160, 240, 1316, 640, 334, 0, 3662, 124, 41]);
 }

@@ -6,7 +6,7 @@
 -- Assumes nothing.
 use mathlib.Core.Path.{_≡_, refl, sym, ap, _∙_}
 use mathlib.Core.Bool.{cond}
-use mathlib.Core.List.{List}
+use mathlib.Core.List.{List, []}
 use lib.Dec.{eqb}
 use contract.Lifetimes.{Lfts}
 use borrow.Fn.Kinds.{Dens, resT, endedOf}
@@ -52,12 +52,12 @@ use Rattle.arbiter.proofs.reedtangle_fresh.Reads as export-fresh-reads
 
 -- a state by value is the state that its arrays make
 one-state : {h : Held} (r s : State)
-    → lent (r .next) (r .free) (r .numbers) (r .leads) (r .sets) ≡ h
-    → lent (s .next) (s .free) (s .numbers) (s .leads) (s .sets) ≡ h
+    → lent (r .next) (r .free) (r .numbers) (r .leads) (r .sets) (r .ports) ≡ h
+    → lent (s .next) (s .free) (s .numbers) (s .leads) (s .sets) (s .ports) ≡ h
     → r ≡ s
 one-state =
-    one-part (λ (r : State). lent (r .next) (r .free) (r .numbers) (r .leads) (r .sets))
-    (λ h. record { next = h .next; free = h .free; numbers = h .numbers; leads = h .leads; sets = h .sets }) (λ r. refl)
+    one-part (λ (r : State). lent (r .next) (r .free) (r .numbers) (r .leads) (r .sets) (r .ports))
+    (λ h. record { next = h .next; free = h .free; numbers = h .numbers; leads = h .leads; sets = h .sets; ports = h .ports }) (λ r. refl)
 
 pub one-fresh : One 0 fresh-kinds.ps fresh-kinds.r fresh-reads.Post
 one-fresh κs a x y s t p q = one-state x y p q
@@ -129,23 +129,23 @@ pub one-export-replay-by-value : (κs : Lfts 3) (a : Dens κs export-by-value-ki
     → (x ≡ y) × (now (s .1 .1 .0) ≡ now (t .1 .1 .0)) × (now (s .1 .1 .1 .0) ≡ now (t .1 .1 .1 .0))
 one-export-replay-by-value κs a x y s t p q = let same = p ∙ sym q in (λ i. same i .code, λ i. same i .bytes, λ i. same i .place)
 
-pub one-export-step : (κs : Lfts 6) (a : Dens κs export-step-kinds.ps) (x y : resT export-step-kinds.r κs .Denot)
-    (s t : AtExit (endedOf 6 export-step-kinds.ps export-step-kinds.r) κs)
+pub one-export-step : (κs : Lfts 7) (a : Dens κs export-step-kinds.ps) (x y : resT export-step-kinds.r κs .Denot)
+    (s t : AtExit (endedOf 7 export-step-kinds.ps export-step-kinds.r) κs)
     → export-step-reads.Post κs a x s
     → export-step-reads.Post κs a y t
-    → (x ≡ y) × (now (s .0) ≡ now (t .0)) × (now (s .1 .0) ≡ now (t .1 .0)) × (now (s .1 .1 .0) ≡ now (t .1 .1 .0)) × (now (s .1 .1 .1 .0) ≡ now (t .1 .1 .1 .0)) × (now (s .1 .1 .1 .1 .0) ≡ now (t .1 .1 .1 .1 .0))
+    → (x ≡ y) × (now (s .0) ≡ now (t .0)) × (now (s .1 .0) ≡ now (t .1 .0)) × (now (s .1 .1 .0) ≡ now (t .1 .1 .0)) × (now (s .1 .1 .1 .0) ≡ now (t .1 .1 .1 .0)) × (now (s .1 .1 .1 .1 .0) ≡ now (t .1 .1 .1 .1 .0)) × (now (s .1 .1 .1 .1 .1 .0) ≡ now (t .1 .1 .1 .1 .1 .0))
 one-export-step κs a x y s t p q =
     let left = p .1 ∙ sym (q .1) in
-    (p .0 ∙ sym (q .0), λ i. left i .next, λ i. left i .free, λ i. left i .numbers, λ i. left i .leads, λ i. left i .sets)
+    (p .0 ∙ sym (q .0), λ i. left i .next, λ i. left i .free, λ i. left i .numbers, λ i. left i .leads, λ i. left i .sets, λ i. left i .ports)
 
-pub one-export-late-step : (κs : Lfts 6) (a : Dens κs export-late-kinds.ps) (x y : resT export-late-kinds.r κs .Denot)
-    (s t : AtExit (endedOf 6 export-late-kinds.ps export-late-kinds.r) κs)
+pub one-export-late-step : (κs : Lfts 7) (a : Dens κs export-late-kinds.ps) (x y : resT export-late-kinds.r κs .Denot)
+    (s t : AtExit (endedOf 7 export-late-kinds.ps export-late-kinds.r) κs)
     → export-late-reads.Post κs a x s
     → export-late-reads.Post κs a y t
-    → (x ≡ y) × (now (s .0) ≡ now (t .0)) × (now (s .1 .0) ≡ now (t .1 .0)) × (now (s .1 .1 .0) ≡ now (t .1 .1 .0)) × (now (s .1 .1 .1 .0) ≡ now (t .1 .1 .1 .0)) × (now (s .1 .1 .1 .1 .0) ≡ now (t .1 .1 .1 .1 .0))
+    → (x ≡ y) × (now (s .0) ≡ now (t .0)) × (now (s .1 .0) ≡ now (t .1 .0)) × (now (s .1 .1 .0) ≡ now (t .1 .1 .0)) × (now (s .1 .1 .1 .0) ≡ now (t .1 .1 .1 .0)) × (now (s .1 .1 .1 .1 .0) ≡ now (t .1 .1 .1 .1 .0)) × (now (s .1 .1 .1 .1 .1 .0) ≡ now (t .1 .1 .1 .1 .1 .0))
 one-export-late-step κs a x y s t p q =
     let left = p .1 ∙ sym (q .1) in
-    (p .0 ∙ sym (q .0), λ i. left i .next, λ i. left i .free, λ i. left i .numbers, λ i. left i .leads, λ i. left i .sets)
+    (p .0 ∙ sym (q .0), λ i. left i .next, λ i. left i .free, λ i. left i .numbers, λ i. left i .leads, λ i. left i .sets, λ i. left i .ports)
 
 pub one-export-publish : (κs : Lfts 6) (a : Dens κs export-publish-kinds.ps) (x y : resT export-publish-kinds.r κs .Denot)
     (s t : AtExit (endedOf 6 export-publish-kinds.ps export-publish-kinds.r) κs)
@@ -153,13 +153,13 @@ pub one-export-publish : (κs : Lfts 6) (a : Dens κs export-publish-kinds.ps) (
     → export-publish-reads.Post κs a y t
     → (x ≡ y) × (now (s .0) ≡ now (t .0)) × (now (s .1 .0) ≡ now (t .1 .0)) × (now (s .1 .1 .0) ≡ now (t .1 .1 .0)) × (now (s .1 .1 .1 .0) ≡ now (t .1 .1 .1 .0)) × (now (s .1 .1 .1 .1 .0) ≡ now (t .1 .1 .1 .1 .0))
 one-export-publish κs a x y s t p q =
-    let left = p .1 ∙ sym (q .1) in
-    (p .0 ∙ sym (q .0), λ i. left i .next, λ i. left i .free, λ i. left i .numbers, λ i. left i .leads, λ i. left i .sets)
+    let left = p [] .1 ∙ sym (q [] .1) in
+    (p [] .0 ∙ sym (q [] .0), λ i. left i .next, λ i. left i .free, λ i. left i .numbers, λ i. left i .leads, λ i. left i .sets)
 
-pub one-export-fresh : (κs : Lfts 5) (a : Dens κs export-fresh-kinds.ps) (x y : resT export-fresh-kinds.r κs .Denot)
-    (s t : AtExit (endedOf 5 export-fresh-kinds.ps export-fresh-kinds.r) κs)
+pub one-export-fresh : (κs : Lfts 6) (a : Dens κs export-fresh-kinds.ps) (x y : resT export-fresh-kinds.r κs .Denot)
+    (s t : AtExit (endedOf 6 export-fresh-kinds.ps export-fresh-kinds.r) κs)
     → export-fresh-reads.Post κs a x s
     → export-fresh-reads.Post κs a y t
-    → (now (s .1 .0) ≡ now (t .1 .0)) × (now (s .1 .1 .0) ≡ now (t .1 .1 .0)) × (now (s .1 .1 .1 .0) ≡ now (t .1 .1 .1 .0)) × (now (s .1 .1 .1 .1 .0) ≡ now (t .1 .1 .1 .1 .0)) × (now (s .1 .1 .1 .1 .1 .0) ≡ now (t .1 .1 .1 .1 .1 .0))
+    → (now (s .1 .0) ≡ now (t .1 .0)) × (now (s .1 .1 .0) ≡ now (t .1 .1 .0)) × (now (s .1 .1 .1 .0) ≡ now (t .1 .1 .1 .0)) × (now (s .1 .1 .1 .1 .0) ≡ now (t .1 .1 .1 .1 .0)) × (now (s .1 .1 .1 .1 .1 .0) ≡ now (t .1 .1 .1 .1 .1 .0)) × (now (s .1 .1 .1 .1 .1 .1 .0) ≡ now (t .1 .1 .1 .1 .1 .1 .0))
 one-export-fresh κs a x y s t p q =
-    let left = p ∙ sym q in (λ i. left i .next, λ i. left i .free, λ i. left i .numbers, λ i. left i .leads, λ i. left i .sets)
+    let left = p ∙ sym q in (λ i. left i .next, λ i. left i .free, λ i. left i .numbers, λ i. left i .leads, λ i. left i .sets, λ i. left i .ports)

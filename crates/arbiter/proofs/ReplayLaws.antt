@@ -33,9 +33,9 @@ tab-const : (n x : ℕ) → replicate n x ≡ tab n (λ i. x)
 tab-const zero x = refl
 tab-const (suc n) x = ap (λ (l : List ℕ). x ∷ l) (tab-const n x) ∙ sym (tab-suc n (λ i. x))
 
-pub fresh-law : (first : ℕ) → lent first 4294967295 (replicate 32 0) (replicate 32 0) (replicate 512 0) ≡ fresh-held first
+pub fresh-law : (first : ℕ) → lent first 4294967295 (replicate 32 0) (replicate 32 0) (replicate 512 0) (replicate 3 0) ≡ fresh-held first
 unfolding fresh-held
-fresh-law first = lent-same refl refl (tab-const 32 0) (tab-const 32 0) (tab-const 512 0)
+fresh-law first = lent-same refl refl (tab-const 32 0) (tab-const 32 0) (tab-const 512 0) (tab-const 3 0)
 
 -- ---- a run of stores
 
@@ -115,13 +115,13 @@ module _ {first : ℕ} {requests entry : List ℕ} where
     pub replay-fits : length requests / 8 ≤ length entry / 8 → i < length requests / 8 → i * 8 + 8 ≤ length bytes
     replay-fits room more = omega (arith, f .long)
 
-    pub replay-turn : {b numbers leads sets bytes₁ bytes₂ : List ℕ} {r : Moved} {code job : ℕ} → length requests / 8 ≤ length entry / 8 → i < length requests / 8
-        → b ≡ take 8 (drop (i * 8) requests) → Steps h (request-of b) r numbers leads sets
+    pub replay-turn : {b numbers leads sets ports bytes₁ bytes₂ : List ℕ} {r : Moved} {code job : ℕ} → length requests / 8 ≤ length entry / 8 → i < length requests / 8
+        → b ≡ take 8 (drop (i * 8) requests) → Steps h (request-of b) r numbers leads sets ports
         → code ≡ numbered (r .answer) .code → job ≡ numbered (r .answer) .job
         → bytes₁ ≡ take (i * 8) bytes ++ bytes-of 4 code ++ drop (i * 8 + 4) bytes
         → bytes₂ ≡ take (i * 8 + 4) bytes₁ ++ bytes-of 4 job ++ drop (i * 8 + 4 + 4) bytes₁
-        → Replaying first requests entry (i + 1) (lent (r .next) (r .free) numbers leads sets) bytes₂
-    replay-turn {b} {numbers} {leads} {sets} {bytes₁} {bytes₂} {r} {code} {job} room more eb s ec ej e₁ e₂ =
+        → Replaying first requests entry (i + 1) (lent (r .next) (r .free) numbers leads sets ports) bytes₂
+    replay-turn {b} {numbers} {leads} {sets} {ports} {bytes₁} {bytes₂} {r} {code} {job} room more eb s ec ej e₁ e₂ =
         record {
           inside = omega arith;
           long = t₂ .long ∙ t₁ .long ∙ f .long;
@@ -149,7 +149,7 @@ module _ {first : ℕ} {requests entry : List ℕ} where
 
         -- what is left to be answered after this turn
         later : List ℕ
-        later = answer-bytes (answers (lent (r .next) (r .free) numbers leads sets) (records (drop ((i + 1) * 8) requests)))
+        later = answer-bytes (answers (lent (r .next) (r .free) numbers leads sets ports) (records (drop ((i + 1) * 8) requests)))
 
         left : records (drop (i * 8) requests) ≡ request-of b ∷ records (drop ((i + 1) * 8) requests)
         left =
@@ -195,11 +195,11 @@ unfolding packed
 in-one ec ej = ap₂ (λ (x y : ℕ). x * 4294967296 + y) ec ej
 
 -- what `reedtangle_step` says, from what `step_in_place` ensures
-pub packs : {h : Held} {q : Request} {r : Moved} {numbers leads sets : List ℕ} {n : ℕ} → Steps h q r numbers leads sets → n ≡ packed (numbered (r .answer))
-    → (n ≡ packed (answer-to h q)) × (lent (r .next) (r .free) numbers leads sets ≡ after h q)
+pub packs : {h : Held} {q : Request} {r : Moved} {numbers leads sets ports : List ℕ} {n : ℕ} → Steps h q r numbers leads sets ports → n ≡ packed (numbered (r .answer))
+    → (n ≡ packed (answer-to h q)) × (lent (r .next) (r .free) numbers leads sets ports ≡ after h q)
 packs s e = (e ∙ ap packed (s .answered), s .left)
 
 -- and what the calls of the second profile say
-pub packs-late : {h : Held} {a : Ask} {r : Moved} {numbers leads sets : List ℕ} {n : ℕ} → Lates h a r numbers leads sets → n ≡ packed (numbered (r .answer))
-    → (n ≡ packed (late-answer h a)) × (lent (r .next) (r .free) numbers leads sets ≡ late-next h a)
+pub packs-late : {h : Held} {a : Ask} {r : Moved} {numbers leads sets ports : List ℕ} {n : ℕ} → Lates h a r numbers leads sets ports → n ≡ packed (numbered (r .answer))
+    → (n ≡ packed (late-answer h a)) × (lent (r .next) (r .free) numbers leads sets ports ≡ late-next h a)
 packs-late s e = (e ∙ ap packed (s .answered), s .left)

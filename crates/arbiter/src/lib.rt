@@ -1,8 +1,8 @@
 // The arbiter: the state by value and its step, a run of requests, and what C and Rust link. The work is done in place on lent arrays, in the crate `slots`
 // (`step_in_place`, and for the second profile `late_in_place` and `publish_in_place`); the step by value takes the state apart, lends its arrays and puts it together again.
 ghost use mathlib.Core.Path.{_≡_};
-ghost use mathlib.Core.List.{[], _++_};
-ghost use Prim.Native.Nat.{_+_, _≤_};
+ghost use mathlib.Core.List.{List, [], _++_};
+ghost use Prim.Native.Nat.{ℕ, _+_, _≤_};
 ghost use lib.ListN.{length, take, drop};
 ghost use Rattle.history.specs.Formats.{bytes-of, request-of};
 ghost use Rattle.held.specs.Held.{fresh-held, answer-to, after};
@@ -26,6 +26,7 @@ pub struct State {
     pub numbers: [u32; 32],
     pub leads: [u32; 32],
     pub sets: [u64; 512],
+    pub ports: [u32; 3],
 }
 
 // A state with the answer that led to it.
@@ -44,7 +45,7 @@ impl State {
 
     // No job open. The first job gets the first number.
     pub fn fresh(first: JobNumber) -> State
-        ensures { λ r. ⌜ lent (r .next) (r .free) (r .numbers) (r .leads) (r .sets) ≡ fresh-held (first .0) ⌝ }
+        ensures { λ r. ⌜ lent (r .next) (r .free) (r .numbers) (r .leads) (r .sets) (r .ports) ≡ fresh-held (first .0) ⌝ }
     {
         State {
             next: first.0 as u64,
@@ -52,23 +53,26 @@ impl State {
             numbers: [0; 32],
             leads: [0; 32],
             sets: [0; 512],
+            ports: [0; 3],
         }
     }
 
     // The state after one request, with the answer. A refusal leaves the state as it was.
     pub fn step(self, request: [u8; 8]) -> Stepped
-        ensures { λ r. ⌜ (numbered (r .answer) ≡ answer-to (lent (self .next) (self .free) (self .numbers) (self .leads) (self .sets)) (request-of request))
-            × (lent (r .state .next) (r .state .free) (r .state .numbers) (r .state .leads) (r .state .sets) ≡ after (lent (self .next) (self .free) (self .numbers) (self .leads) (self .sets)) (request-of request)) ⌝ }
+        ensures { λ r. ⌜ (numbered (r .answer) ≡ answer-to (lent (self .next) (self .free) (self .numbers) (self .leads) (self .sets) (self .ports)) (request-of request))
+            × (lent (r .state .next) (r .state .free) (r .state .numbers) (r .state .leads) (r .state .sets) (r .state .ports) ≡ after (lent (self .next) (self .free) (self .numbers) (self .leads) (self .sets) (self .ports)) (request-of request)) ⌝ }
     {
         let mut numbers = self.numbers;
         let mut leads = self.leads;
         let mut sets = self.sets;
+        let mut ports = self.ports;
         let m = step_in_place(
             self.next,
             self.free,
             &mut numbers,
             &mut leads,
             &mut sets,
+            &mut ports,
             request,
         );
         let answer = m.answer;
@@ -79,6 +83,7 @@ impl State {
                 numbers: numbers,
                 leads: leads,
                 sets: sets,
+                ports: ports,
             },
             answer: answer,
         }
@@ -86,18 +91,20 @@ impl State {
 
     // The same in the second profile: an open, a read or an abandon.
     pub fn late_step(self, request: [u8; 8]) -> Stepped
-        ensures { λ r. ⌜ (numbered (r .answer) ≡ late-answer (lent (self .next) (self .free) (self .numbers) (self .leads) (self .sets)) (asks (request-of request)))
-            × (lent (r .state .next) (r .state .free) (r .state .numbers) (r .state .leads) (r .state .sets) ≡ late-next (lent (self .next) (self .free) (self .numbers) (self .leads) (self .sets)) (asks (request-of request))) ⌝ }
+        ensures { λ r. ⌜ (numbered (r .answer) ≡ late-answer (lent (self .next) (self .free) (self .numbers) (self .leads) (self .sets) (self .ports)) (asks (request-of request)))
+            × (lent (r .state .next) (r .state .free) (r .state .numbers) (r .state .leads) (r .state .sets) (r .state .ports) ≡ late-next (lent (self .next) (self .free) (self .numbers) (self .leads) (self .sets) (self .ports)) (asks (request-of request))) ⌝ }
     {
         let mut numbers_now = self.numbers;
         let mut leads_now = self.leads;
         let mut sets_now = self.sets;
+        let mut ports_now = self.ports;
         let left = late_in_place(
             self.next,
             self.free,
             &mut numbers_now,
             &mut leads_now,
             &mut sets_now,
+            &mut ports_now,
             request,
         );
         let answer = left.answer;
@@ -108,6 +115,7 @@ impl State {
                 numbers: numbers_now,
                 leads: leads_now,
                 sets: sets_now,
+                ports: ports_now,
             },
             answer: answer,
         }
@@ -115,12 +123,13 @@ impl State {
 
     // And a publish: the job writes the cells and ends.
     pub fn publish(self, job: JobNumber, cells: CellSet) -> Stepped
-        ensures { λ r. ⌜ (numbered (r .answer) ≡ late-answer (lent (self .next) (self .free) (self .numbers) (self .leads) (self .sets)) (publishes (job .0) (cells .words)))
-            × (lent (r .state .next) (r .state .free) (r .state .numbers) (r .state .leads) (r .state .sets) ≡ late-next (lent (self .next) (self .free) (self .numbers) (self .leads) (self .sets)) (publishes (job .0) (cells .words))) ⌝ }
+        ensures { λ r. ⌜ (numbered (r .answer) ≡ late-answer (lent (self .next) (self .free) (self .numbers) (self .leads) (self .sets) (self .ports)) (publishes (job .0) (cells .words)))
+            × (lent (r .state .next) (r .state .free) (r .state .numbers) (r .state .leads) (r .state .sets) (r .state .ports) ≡ late-next (lent (self .next) (self .free) (self .numbers) (self .leads) (self .sets) (self .ports)) (publishes (job .0) (cells .words))) ⌝ }
     {
         let mut numbers_now = self.numbers;
         let mut leads_now = self.leads;
         let mut sets_now = self.sets;
+        let ports_now = self.ports;
         let left = publish_in_place(
             self.next,
             self.free,
@@ -138,6 +147,7 @@ impl State {
                 numbers: numbers_now,
                 leads: leads_now,
                 sets: sets_now,
+                ports: ports_now,
             },
             answer: answer,
         }
@@ -216,10 +226,19 @@ pub fn replay(first: JobNumber, requests: &[u8], answers: &mut [u8]) -> Replayed
     let mut numbers: [u32; 32] = [0; 32];
     let mut leads: [u32; 32] = [0; 32];
     let mut sets: [u64; 512] = [0; 512];
+    let mut ports: [u32; 3] = [0; 3];
     let mut i: usize = 0;
     while i < count {
         let request = request_at(requests, i * 8);
-        let m = step_in_place(next, free, &mut numbers, &mut leads, &mut sets, request);
+        let m = step_in_place(
+            next,
+            free,
+            &mut numbers,
+            &mut leads,
+            &mut sets,
+            &mut ports,
+            request,
+        );
         next = m.next;
         free = m.free;
         let answer = m.answer;
@@ -291,12 +310,13 @@ pub extern "C" fn reedtangle_step(
     numbers: &mut [u32; 32],
     leads: &mut [u32; 32],
     sets: &mut [u64; 512],
+    ports: &mut [u32; 3],
     request: &[u8; 8],
 ) -> u64
-    ensures { λ r. ⌜ (r ≡ packed (answer-to (lent (now (next .entry)) (now (free .entry)) (now (numbers .entry)) (now (leads .entry)) (now (sets .entry))) (request-of (now (request .entry)))))
-        × (lent (now (next .exit)) (now (free .exit)) (now (numbers .exit)) (now (leads .exit)) (now (sets .exit)) ≡ after (lent (now (next .entry)) (now (free .entry)) (now (numbers .entry)) (now (leads .entry)) (now (sets .entry))) (request-of (now (request .entry)))) ⌝ }
+    ensures { λ r. ⌜ (r ≡ packed (answer-to (lent (now (next .entry)) (now (free .entry)) (now (numbers .entry)) (now (leads .entry)) (now (sets .entry)) (now (ports .entry))) (request-of (now (request .entry)))))
+        × (lent (now (next .exit)) (now (free .exit)) (now (numbers .exit)) (now (leads .exit)) (now (sets .exit)) (now (ports .exit)) ≡ after (lent (now (next .entry)) (now (free .entry)) (now (numbers .entry)) (now (leads .entry)) (now (sets .entry)) (now (ports .entry))) (request-of (now (request .entry)))) ⌝ }
 {
-    let m = step_in_place(*next, *free, numbers, leads, sets, *request);
+    let m = step_in_place(*next, *free, numbers, leads, sets, ports, *request);
     *next = m.next;
     *free = m.free;
     let answer = m.answer;
@@ -311,19 +331,20 @@ pub extern "C" fn reedtangle_late_step(
     numbers: &mut [u32; 32],
     leads: &mut [u32; 32],
     sets: &mut [u64; 512],
+    ports: &mut [u32; 3],
     request: &[u8; 8],
 ) -> u64
-    ensures { λ r. ⌜ (r ≡ packed (late-answer (lent (now (next .entry)) (now (free .entry)) (now (numbers .entry)) (now (leads .entry)) (now (sets .entry))) (asks (request-of (now (request .entry))))))
-        × (lent (now (next .exit)) (now (free .exit)) (now (numbers .exit)) (now (leads .exit)) (now (sets .exit)) ≡ late-next (lent (now (next .entry)) (now (free .entry)) (now (numbers .entry)) (now (leads .entry)) (now (sets .entry))) (asks (request-of (now (request .entry))))) ⌝ }
+    ensures { λ r. ⌜ (r ≡ packed (late-answer (lent (now (next .entry)) (now (free .entry)) (now (numbers .entry)) (now (leads .entry)) (now (sets .entry)) (now (ports .entry))) (asks (request-of (now (request .entry))))))
+        × (lent (now (next .exit)) (now (free .exit)) (now (numbers .exit)) (now (leads .exit)) (now (sets .exit)) (now (ports .exit)) ≡ late-next (lent (now (next .entry)) (now (free .entry)) (now (numbers .entry)) (now (leads .entry)) (now (sets .entry)) (now (ports .entry))) (asks (request-of (now (request .entry))))) ⌝ }
 {
-    let left = late_in_place(*next, *free, numbers, leads, sets, *request);
+    let left = late_in_place(*next, *free, numbers, leads, sets, ports, *request);
     *next = left.next;
     *free = left.free;
     let answer = left.answer;
     in_one(answer)
 }
 
-// The publish of the second profile on it: a job and the four words of a cell set.
+// The publish of the second profile on it: a job and the four words of a cell set. It opens nothing, and so the ports are not lent: they stay, whatever they are.
 #[no_mangle]
 pub extern "C" fn reedtangle_publish(
     next: &mut u64,
@@ -334,8 +355,8 @@ pub extern "C" fn reedtangle_publish(
     job: u32,
     cells: &[u64; 4],
 ) -> u64
-    ensures { λ r. ⌜ (r ≡ packed (late-answer (lent (now (next .entry)) (now (free .entry)) (now (numbers .entry)) (now (leads .entry)) (now (sets .entry))) (publishes job (now (cells .entry)))))
-        × (lent (now (next .exit)) (now (free .exit)) (now (numbers .exit)) (now (leads .exit)) (now (sets .exit)) ≡ late-next (lent (now (next .entry)) (now (free .entry)) (now (numbers .entry)) (now (leads .entry)) (now (sets .entry))) (publishes job (now (cells .entry)))) ⌝ }
+    ensures { λ r. ⌜ ((ports : List ℕ) → (r ≡ packed (late-answer (lent (now (next .entry)) (now (free .entry)) (now (numbers .entry)) (now (leads .entry)) (now (sets .entry)) ports) (publishes job (now (cells .entry)))))
+        × (lent (now (next .exit)) (now (free .exit)) (now (numbers .exit)) (now (leads .exit)) (now (sets .exit)) ports ≡ late-next (lent (now (next .entry)) (now (free .entry)) (now (numbers .entry)) (now (leads .entry)) (now (sets .entry)) ports) (publishes job (now (cells .entry))))) ⌝ }
 {
     let left = publish_in_place(
         *next,
@@ -361,12 +382,14 @@ pub extern "C" fn reedtangle_fresh(
     numbers: &mut [u32; 32],
     leads: &mut [u32; 32],
     sets: &mut [u64; 512],
+    ports: &mut [u32; 3],
 )
-    ensures { λ _. ⌜ lent (now (next .exit)) (now (free .exit)) (now (numbers .exit)) (now (leads .exit)) (now (sets .exit)) ≡ fresh-held first ⌝ }
+    ensures { λ _. ⌜ lent (now (next .exit)) (now (free .exit)) (now (numbers .exit)) (now (leads .exit)) (now (sets .exit)) (now (ports .exit)) ≡ fresh-held first ⌝ }
 {
     *next = first as u64;
     *free = 0xffff_ffff;
     *numbers = [0; 32];
     *leads = [0; 32];
     *sets = [0; 512];
+    *ports = [0; 3];
 }

@@ -3,6 +3,7 @@
 -- Assumes nothing.
 use mathlib.Core.Path.{_≡_, refl, sym, ap, _∙_}
 use mathlib.Core.Bool.{cond}
+use mathlib.Core.List.{[]}
 use lib.Dec.{eqb}
 use contract.Lifetimes.{Lfts}
 use borrow.Fn.Kinds.{Dens, resT, endedOf}
@@ -55,13 +56,13 @@ pub one-batch-in-place : (κs : Lfts 4) (a : Dens κs in-place-kinds.ps) (x y : 
     → in-place-reads.Post κs a y t
     → (x ≡ y) × (now (s .1 .1 .0) ≡ now (t .1 .1 .0)) × (now (s .1 .1 .1 .0) ≡ now (t .1 .1 .1 .0)) × (now (s .1 .1 .1 .1 .0) ≡ now (t .1 .1 .1 .1 .0))
 one-batch-in-place κs a x y s t p q =
-    let left = p .left ∙ sym (q .left) in
-    (one-answer x y (p .answered ∙ sym (q .answered)), λ i. left i .numbers, λ i. left i .leads, λ i. left i .sets)
+    let left = p [] .left ∙ sym (q [] .left) in
+    (one-answer x y (p [] .answered ∙ sym (q [] .answered)), λ i. left i .numbers, λ i. left i .leads, λ i. left i .sets)
 
 pub one-export-batch : (κs : Lfts 6) (a : Dens κs export-kinds.ps) (x y : resT export-kinds.r κs .Denot) (s t : AtExit (endedOf 6 export-kinds.ps export-kinds.r) κs)
     → export-reads.Post κs a x s
     → export-reads.Post κs a y t
     → (x ≡ y) × (now (s .0) ≡ now (t .0)) × (now (s .1 .0) ≡ now (t .1 .0)) × (now (s .1 .1 .0) ≡ now (t .1 .1 .0)) × (now (s .1 .1 .1 .0) ≡ now (t .1 .1 .1 .0)) × (now (s .1 .1 .1 .1 .0) ≡ now (t .1 .1 .1 .1 .0))
 one-export-batch κs a x y s t p q =
-    let left = p .1 ∙ sym (q .1) in
-    (p .0 ∙ sym (q .0), λ i. left i .next, λ i. left i .free, λ i. left i .numbers, λ i. left i .leads, λ i. left i .sets)
+    let left = p [] .1 ∙ sym (q [] .1) in
+    (p [] .0 ∙ sym (q [] .0), λ i. left i .next, λ i. left i .free, λ i. left i .numbers, λ i. left i .leads, λ i. left i .sets)

@@ -1,7 +1,7 @@
 -- What the proofs of the batch need beyond the contracts of the functions that are called.
 --
--- First one item: what it gets is its code by itself where its kind is taken, and 1 where it is not (`takes-step`, `takes-none`); a step leaves the next number, the free slots and
--- the numbers as they were (`Stays`). Then the loop (`Running`): what the batch gets is what the items that are left would get from the state as it is, their places
+-- First one item: what it gets is its code by itself where its kind is taken, and 1 where it is not (`takes-step`, `takes-none`); a step leaves the next number, the free slots,
+-- the numbers and the ports as they were (`Stays`), and does the same beside any ports (`steps-beside`). Then the loop (`Running`): what the batch gets is what the items that are left would get from the state as it is, their places
 -- counted on, and the same of the state that they would leave. Last the whole batch: its length, and a refusal, after which leads and sets are put back.
 -- Assumes nothing.
 use mathlib.Core.Path.{_≡_, refl, sym, ap, ap₂, _∙_, subst}
@@ -20,8 +20,8 @@ use borrow.Author.Tests.{ne-eqb}
 use Rattle.graph.specs.Decide.{eq-test, answer, test-false}
 use Rattle.history.specs.Events.{Kind, read, write, add}
 use Rattle.history.specs.Formats.{records, request-of}
-use Rattle.history.specs.Replies.{cells, Request, Reply, Want, a-step, want, Facts, tests, _gives_, first-of, code-of, reply-of}
-use Rattle.held.specs.Held.{Held, slot-of, stepped-at, facts, with-slot, moved, answer-to, after, answers, after-all}
+use Rattle.history.specs.Replies.{cells, Request, Reply, Want, a-step, want, Facts, tests, _gives_, first-of, code-of, job-of, reply-of}
+use Rattle.held.specs.Held.{Held, number-at, leads-at, word-at, open-at, open-slots, cell-at, is-some, at-slot, slot-of, touched, chain-back, stepped-at, facts, with-slot, moved, answer-to, after, answers, after-all}
 use Rattle.history_laws.specs.RecordLaws.{record-there, record-none, drop-record, drop-none}
 use Rattle.slots.specs.Lent.{lent, numbered, Steps}
 use Rattle.slots.specs.declared.Moved.{Moved}
@@ -85,23 +85,75 @@ pub record Stays (h g : Held) : Type 0 where
   pub next : g .next ≡ h .next
   pub free : g .free ≡ h .free
   pub numbers : g .numbers ≡ h .numbers
+  pub ports : g .ports ≡ h .ports
 
 stays-all : (h : Held) → Stays h h
-stays-all h = record { next = refl; free = refl; numbers = refl }
+stays-all h = record { next = refl; free = refl; numbers = refl; ports = refl }
 
 step-stays : (h : Held) (r : Request) (k : Kind) → want (r .kind) ≡ a-step k → Stays h (after h r)
 unfolding after moved stepped-at
 step-stays h r k e =
     subst (λ (w : Want). Stays h (cond (eqb (code-of (facts h) r) 0) (moved h w (r .job) (r .cell)) h)) (sym e)
-    (if-granted (eqb (code-of (facts h) r) 0) (at-slot (slot-of h (r .job))))
+    (if-granted (eqb (code-of (facts h) r) 0) (there (slot-of h (r .job))))
   where
-    at-slot : (o : Option ℕ) → Stays h (with-slot o (λ s. stepped-at h k s (r .cell)) h)
-    at-slot none = stays-all h
-    at-slot (some s) = record { next = refl; free = refl; numbers = refl }
+    there : (o : Option ℕ) → Stays h (with-slot o (λ s. stepped-at h k s (r .cell)) h)
+    there none = stays-all h
+    there (some s) = record { next = refl; free = refl; numbers = refl; ports = refl }
 
     if-granted : (b : Bool) {g : Held} → Stays h g → Stays h (cond b g h)
     if-granted true s = s
     if-granted false s = stays-all h
+
+-- a state beside any ports, and what a step does there: it looks at no ports, and so it does what it does beside others
+abbrev pub beside : Held → List ℕ → Held
+beside g ports = lent (g .next) (g .free) (g .numbers) (g .leads) (g .sets) ports
+
+abbrev reply-for : Held → Request → Want → Reply
+reply-for h q w = record { code = code-for (facts h) q w; job = cond (eqb (code-for (facts h) q w) 0) (job-of (h .next) w (q .job)) 0 }
+
+abbrev after-for : Held → Request → Want → Held
+after-for h q w = cond (eqb (code-for (facts h) q w) 0) (moved h w (q .job) (q .cell)) h
+
+module _ (g : Held) (ports : List ℕ) (q : Request) (k : Kind) where
+  slot-beside : slot-of g (q .job) ≡ slot-of (beside g ports) (q .job)
+  unfolding slot-of open-slots open-at number-at
+  slot-beside = refl
+
+  chain-beside : (s : ℕ) → chain-back g k s (q .cell) ≡ chain-back (beside g ports) k s (q .cell)
+  unfolding chain-back open-slots open-at leads-at touched cell-at word-at
+  chain-beside s = refl
+
+  code-beside : code-for (facts g) q (a-step k) ≡ code-for (facts (beside g ports)) q (a-step k)
+  unfolding tests facts
+  code-beside = λ i. cond (not (eqb (q .byte1) 0)) 1 (cond (leb cells (q .cell)) 2 (cond (not (is-some (slot-beside i))) 3 (cond (at-slot (slot-beside i) (λ s. chain-beside s i)) 7 0)))
+
+  moved-beside : beside (moved g (a-step k) (q .job) (q .cell)) ports ≡ moved (beside g ports) (a-step k) (q .job) (q .cell)
+  unfolding moved stepped-at slot-of open-slots open-at number-at leads-at touched cell-at word-at
+  moved-beside = go (slot-of g (q .job))
+    where
+      go : (o : Option ℕ) → beside (with-slot o (λ s. stepped-at g k s (q .cell)) g) ports ≡ with-slot o (λ s. stepped-at (beside g ports) k s (q .cell)) (beside g ports)
+      go none = refl
+      go (some s) = refl
+
+  after-beside : beside (after-for g q (a-step k)) ports ≡ after-for (beside g ports) q (a-step k)
+  after-beside = go (eqb (code-for (facts g) q (a-step k)) 0) (moved g (a-step k) (q .job) (q .cell)) ∙ (λ i. cond (eqb (code-beside i) 0) (moved-beside i) (beside g ports))
+    where
+      go : (b : Bool) (x : Held) → beside (cond b x g) ports ≡ cond b (beside x ports) (beside g ports)
+      go true x = refl
+      go false x = refl
+
+  steps-beside : {m : Moved} {numbers leads sets left : List ℕ} → want (q .kind) ≡ a-step k → Steps g q m numbers leads sets left
+      → Steps (beside g ports) q m numbers leads sets ports
+  unfolding answer-to after reply-of code-of facts
+  steps-beside e s =
+      record {
+        answered =
+            s .answered ∙ ap (reply-for g q) e
+            ∙ (λ i. record { code = code-beside i; job = cond (eqb (code-beside i) 0) (job-of (g .next) (a-step k) (q .job)) 0 })
+            ∙ sym (ap (reply-for (beside g ports) q) e);
+        left =
+            ap (λ (x : Held). beside x ports) (s .left) ∙ ap (λ (w : Want). beside (after-for g q w) ports) e ∙ after-beside ∙ sym (ap (after-for (beside g ports) q) e);
+      }
 
 -- an item of a kind that is taken gets what it gets by itself
 taken-code : (q : Request) (a : Reply) → taken (q .kind) ≡ true → item-code q a ≡ a .code
@@ -117,19 +169,25 @@ after-again h q = go (eqb (code-of (facts h) q) 0) (moved h (want (q .kind)) (q 
     go true g = refl
     go false g = refl
 
-pub takes-step : {h : Held} (q : Request) {m : Moved} {numbers leads sets : List ℕ} {code : ℕ} → Taken q → Steps h q m numbers leads sets
-    → code ≡ numbered (m .answer) .code → Takes h q code numbers leads sets
+pub takes-step : {g : Held} (ports : List ℕ) (q : Request) {m : Moved} {numbers leads sets left : List ℕ} {code : ℕ} → Taken q → Steps g q m numbers leads sets left
+    → code ≡ numbered (m .answer) .code → Takes (beside g ports) q code numbers leads sets
 unfolding answer-to reply-of
-takes-step {h} q {m} {numbers} {leads} {sets} {code} t s ec =
+takes-step {g} ports q {m} {numbers} {leads} {sets} {code = code} t given ec =
     record {
       code = by-itself ∙ sym (taken-code q (answer-to h q) (st .is-taken));
       known = subst (λ (c : ℕ). (c ≡ 0) ⊎ Refused c) (sym by-itself) (step-codes (facts h) q (st .kind) (st .wants));
-      left = (λ i. lent (next i) (free i) numbers leads sets) ∙ s .left ∙ after-again h q ∙ ap (λ (c : ℕ). cond (eqb c 0) (after h q) h) (sym by-itself);
-      same = ap (λ (g : Held). g .numbers) (s .left) ∙ still .numbers;
+      left = (λ i. lent (next i) (free i) numbers leads sets ports) ∙ s .left ∙ after-again h q ∙ ap (λ (c : ℕ). cond (eqb c 0) (after h q) h) (sym by-itself);
+      same = ap (λ (x : Held). x .numbers) (s .left) ∙ still .numbers;
     }
   where
     st : IsStep (q .kind)
     st = is-step (q .kind) t
+
+    h : Held
+    h = beside g ports
+
+    s : Steps h q m numbers leads sets ports
+    s = steps-beside g ports q (st .kind) (st .wants) given
 
     still : Stays h (after h q)
     still = step-stays h q (st .kind) (st .wants)
@@ -180,7 +238,7 @@ module _ (bytes : List ℕ) (i : ℕ) (more : i < length bytes / 8) {q : Request
 module _ {h₀ h : Held} {bytes : List ℕ} {i : ℕ} (r : Running h₀ bytes i h) where
   module _ {q : Request} (more : i < length bytes / 8) (eq : q ≡ request-of (drop (i * 8) bytes)) {code : ℕ} {numbers leads sets : List ℕ}
       (t : Takes h q code numbers leads sets) where
-    pub run-turn : code ≡ 0 → Running h₀ bytes (i + 1) (lent (h .next) (h .free) numbers leads sets)
+    pub run-turn : code ≡ 0 → Running h₀ bytes (i + 1) (lent (h .next) (h .free) numbers leads sets (h .ports))
     run-turn z =
         record {
           inside = omega arith;
@@ -191,13 +249,13 @@ module _ {h₀ h : Held} {bytes : List ℕ} {i : ℕ} (r : Running h₀ bytes i 
           left =
               r .left ∙ ap (after-all h) (next-item bytes i more eq)
               ∙ ap₂ (λ (n : ℕ) (g : Held). after-all g (drop n (records bytes))) on (sym moved-on);
-          still = record { next = r .still .next; free = r .still .free; numbers = t .same ∙ r .still .numbers };
+          still = record { next = r .still .next; free = r .still .free; numbers = t .same ∙ r .still .numbers; ports = r .still .ports };
         }
       where
         on : suc i ≡ i + 1
         on = sym (add-one i)
 
-        moved-on : lent (h .next) (h .free) numbers leads sets ≡ after h q
+        moved-on : lent (h .next) (h .free) numbers leads sets (h .ports) ≡ after h q
         moved-on = t .left ∙ ap (λ (c : ℕ). cond (eqb c 0) (after h q) h) z
 
     pub run-stop : {b : Batched} → (code ≡ 0 → ⊥) → leaves.numbered b ≡ verdict code i → Runs h₀ (records bytes) b numbers leads sets
@@ -217,7 +275,7 @@ module _ {h₀ h : Held} {bytes : List ℕ} {i : ℕ} (r : Running h₀ bytes i 
   run-end {n} en all =
       record {
         answered = ap (verdict 0) (omega (arith, r .inside)) ∙ sym (ap (gets i h) none-left) ∙ sym (r .verdict);
-        left = λ z. (λ j. lent (sym (r .still .next) j) (sym (r .still .free) j) (h .numbers) (h .leads) (h .sets)) ∙ sym (r .left ∙ ap (after-all h) none-left);
+        left = λ z. (λ j. lent (sym (r .still .next) j) (sym (r .still .free) j) (h .numbers) (h .leads) (h .sets) (sym (r .still .ports) j)) ∙ sym (r .left ∙ ap (after-all h) none-left);
         same = r .still .numbers;
       }
     where
@@ -255,7 +313,7 @@ module _ (h : Held) (bytes : List ℕ) where
         record {
           answered = right;
           left =
-              ap (λ (l : List ℕ). lent (h .next) (h .free) l (h .leads) (h .sets)) (r .same)
+              ap (λ (l : List ℕ). lent (h .next) (h .free) l (h .leads) (h .sets) (h .ports)) (r .same)
               ∙ sym (leaves-by (sym right) ∙ ap (λ (x : Bool). cond x (after-all h (records bytes)) h) (ne-eqb (leaves.numbered b .code) 0 f));
         }
 
@@ -267,6 +325,6 @@ module _ {h : Held} {bytes : List ℕ} {r : Batched} {numbers leads sets : List 
   fits e = omega (arith, judged-small h bytes, ap (λ (v : Verdict). v .place) (b .answered))
 
   pub packs : {code place : ℕ} → code ≡ leaves.numbered r .code → place ≡ leaves.numbered r .place
-      → (code * 4294967296 + place ≡ packed (batch h bytes)) × (lent (h .next) (h .free) numbers leads sets ≡ batch-leaves h bytes)
+      → (code * 4294967296 + place ≡ packed (batch h bytes)) × (lent (h .next) (h .free) numbers leads sets (h .ports) ≡ batch-leaves h bytes)
   unfolding packed
   packs ec ep = (ap₂ (λ (x y : ℕ). x * 4294967296 + y) ec ep ∙ ap packed (b .answered), b .left)

@@ -14,7 +14,7 @@ use lib.Dec.{ltb, eqb}
 use lib.ListN.{length}
 use Rattle.history.specs.Events.{History}
 use Rattle.history.specs.Formats.{records}
-use Rattle.history.specs.Replies.{Request, Reply, replies-from, history-from}
+use Rattle.history.specs.Replies.{Request, Reply, Book, replies-from, history-from, book-from}
 use Rattle.held.specs.Held.{Held, answers, after-all}
 
 pub record Verdict : Type 0 where
@@ -68,13 +68,16 @@ batch h bytes = judged bytes (answers h (records bytes))
 unfoldable pub batch-leaves : Held → List ℕ → Held
 batch-leaves h bytes = cond (eqb (batch h bytes .code) 0) (after-all h (records bytes)) h
 
--- ---- by the full history, which gives out numbers from the first
+-- ---- by the full history and its book, which has the first number and the ports
 
-unfoldable pub full-batch : ℕ → History → List ℕ → Verdict
-full-batch first h bytes = judged bytes (replies-from first h (records bytes))
+unfoldable pub full-batch : Book → History → List ℕ → Verdict
+full-batch b h bytes = judged bytes (replies-from b h (records bytes))
 
-unfoldable pub full-leaves : ℕ → History → List ℕ → History
-full-leaves first h bytes = cond (eqb (full-batch first h bytes .code) 0) (history-from first h (records bytes)) h
+unfoldable pub full-leaves : Book → History → List ℕ → History
+full-leaves b h bytes = cond (eqb (full-batch b h bytes .code) 0) (history-from b h (records bytes)) h
+
+unfoldable pub book-leaves : Book → History → List ℕ → Book
+book-leaves b h bytes = cond (eqb (full-batch b h bytes .code) 0) (book-from b h (records bytes)) b
 
 -- ---- in one number
 

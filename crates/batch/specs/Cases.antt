@@ -9,11 +9,11 @@ use Prim.Native.Nat.{ℕ}
 use lib.ListN.{replicate}
 use Rattle.graph.specs.Lists.{_∈_}
 use Rattle.history.specs.Formats.{bytes-of}
-use Rattle.history.specs.Replies.{Request, Reply, history-of, replies-from}
+use Rattle.history.specs.Replies.{Request, Reply, history-of, book-of, replies-from}
 use Rattle.history.specs.Cases.{open-one, reads, writes, adds, end, abandon, publishes, granted, refused, Exchange, _gets_, computed, rows}
 use Rattle.held.specs.Held.{fresh-held, answers, after-all}
 use Rattle.held.specs.Cases.{held-answers, request}
-use Rattle.batch.specs.Batch.{Verdict, verdict, taken, item-code, ill-sized, judged, batch, batch-leaves, full-batch, full-leaves}
+use Rattle.batch.specs.Batch.{Verdict, verdict, taken, item-code, ill-sized, judged, batch, batch-leaves, full-batch, full-leaves, book-leaves}
 
 -- eight bytes for each item
 abbrev pub bytes : List Request → List ℕ
@@ -39,16 +39,17 @@ expected t =
     record { held = t .verdict; held-later = l; full = t .verdict; full-later = l }
 
 unfoldable pub outcome : Tried → Outcome
-unfolding held-answers computed taken item-code ill-sized judged batch batch-leaves full-batch full-leaves
+unfolding held-answers computed taken item-code ill-sized judged batch batch-leaves full-batch full-leaves book-leaves
 outcome t =
     let h = after-all (fresh-held 1) (t .before) in
     let g = history-of 1 (t .before) in
+    let b = book-of 1 (t .before) in
     let asks = map (λ e. e .asked) (t .later) in
     record {
       held = batch h (t .asked);
       held-later = answers (batch-leaves h (t .asked)) asks;
-      full = full-batch 1 g (t .asked);
-      full-later = replies-from 1 (full-leaves 1 g (t .asked)) asks;
+      full = full-batch b g (t .asked);
+      full-later = replies-from (book-leaves b g (t .asked)) (full-leaves b g (t .asked)) asks;
     }
 
 -- ---- the rows

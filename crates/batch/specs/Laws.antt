@@ -15,12 +15,12 @@ use Rattle.graph.specs.Decide.{Decides, by-test, test-true, test-false, eq-test
 use Rattle.graph.specs.Lists.{_∈_, here, later, each}
 use Rattle.history.specs.Events.{History}
 use Rattle.history.specs.Formats.{records}
-use Rattle.history.specs.Replies.{numbers, Request, Reply, reply, replies-from, history-from, replies, history-of}
+use Rattle.history.specs.Replies.{numbers, Request, Reply, Book, blank-book, reply, book-after, replies-from, history-from, book-from, replies, history-of, book-of}
 use Rattle.history.specs.Replies as full
 use Rattle.held.specs.Held.{Held, fresh-held, answer-to, after, answers, after-all}
 use Rattle.held_laws.specs.HeldExact.{held-exact}
 use Rattle.history_laws.specs.RecordLaws.{records-length}
-use Rattle.batch.specs.Batch.{Verdict, verdict, taken, item-code, codes, first-refused, ill-sized, judged, batch, batch-leaves, full-batch, full-leaves, packed}
+use Rattle.batch.specs.Batch.{Verdict, verdict, taken, item-code, codes, first-refused, ill-sized, judged, batch, batch-leaves, full-batch, full-leaves, book-leaves, packed}
 use Rattle.batch.specs.Cases.{bytes}
 
 -- ---- items in bytes
@@ -239,43 +239,49 @@ pub after-append : (h : Held) (x y : List Request) → after-all h (x ++ y) ≡ 
 after-append h [] y = refl
 after-append h (r ∷ x) y = after-append (after h r) x y
 
+replies-append : (b : Book) (h : History) (x y : List Request) → replies-from b h (x ++ y) ≡ replies-from b h x ++ replies-from (book-from b h x) (history-from b h x) y
+replies-append b h [] y = refl
+replies-append b h (r ∷ x) y = ap (λ (l : List Reply). reply b h r ∷ l) (replies-append (book-after b h r) (full.after b h r) x y)
+
+replies-length : (b : Book) (h : History) (x : List Request) → length (replies-from b h x) ≡ length x
+replies-length b h [] = refl
+replies-length b h (r ∷ x) = ap suc (replies-length (book-after b h r) (full.after b h r) x)
+
+pub history-append : (b : Book) (h : History) (x y : List Request) → history-from b h (x ++ y) ≡ history-from (book-from b h x) (history-from b h x) y
+history-append b h [] y = refl
+history-append b h (r ∷ x) y = history-append (book-after b h r) (full.after b h r) x y
+
+pub book-append : (b : Book) (h : History) (x y : List Request) → book-from b h (x ++ y) ≡ book-from (book-from b h x) (history-from b h x) y
+book-append b h [] y = refl
+book-append b h (r ∷ x) y = book-append (book-after b h r) (full.after b h r) x y
+
 module _ (first : ℕ) where
-  replies-append : (h : History) (x y : List Request) → replies-from first h (x ++ y) ≡ replies-from first h x ++ replies-from first (history-from first h x) y
-  replies-append h [] y = refl
-  replies-append h (r ∷ x) y = ap (λ (l : List Reply). reply first h r ∷ l) (replies-append (full.after first h r) x y)
-
-  replies-length : (h : History) (x : List Request) → length (replies-from first h x) ≡ length x
-  replies-length h [] = refl
-  replies-length h (r ∷ x) = ap suc (replies-length (full.after first h r) x)
-
-  pub history-append : (h : History) (x y : List Request) → history-from first h (x ++ y) ≡ history-from first (history-from first h x) y
-  history-append h [] y = refl
-  history-append h (r ∷ x) y = history-append (full.after first h r) x y
-
   -- a state that requests gave goes on to answer as the history that they gave
-  pub answers-on : (rs items : List Request) → answers (after-all (fresh-held first) rs) items ≡ replies-from first (history-of first rs) items
+  pub answers-on : (rs items : List Request) → answers (after-all (fresh-held first) rs) items ≡ replies-from (book-of first rs) (history-of first rs) items
   answers-on rs items =
       let h = fresh-held first in
       sym (drop-at (answers h rs) (answers (after-all h rs) items) (length rs) (answers-length h rs))
-      ∙ ap (drop (length rs)) (sym (answers-append h rs items) ∙ held-exact first (rs ++ items) ∙ replies-append [] rs items)
-      ∙ drop-at (replies first rs) (replies-from first (history-of first rs) items) (length rs) (replies-length [] rs)
+      ∙ ap (drop (length rs)) (sym (answers-append h rs items) ∙ held-exact first (rs ++ items) ∙ replies-append (blank-book first) [] rs items)
+      ∙ drop-at (replies first rs) (replies-from (book-of first rs) (history-of first rs) items) (length rs) (replies-length (blank-book first) [] rs)
 
-  pub exactly : (rs : List Request) (bytes : List ℕ) → batch (after-all (fresh-held first) rs) bytes ≡ full-batch first (history-of first rs) bytes
+  pub exactly : (rs : List Request) (bytes : List ℕ) → batch (after-all (fresh-held first) rs) bytes ≡ full-batch (book-of first rs) (history-of first rs) bytes
   unfolding batch full-batch
   exactly rs bytes = ap (judged bytes) (answers-on rs (records bytes))
 
-  -- what a batch leaves, the state and the history, are what those requests and its own leave where it is granted, and else what they left
+  -- what a batch leaves, the state, the history and its book, are what those requests and its own leave where it is granted, and else what they left
   pub hands-on : (rs : List Request) (bytes : List ℕ) → (qs : List Request)
       × (batch-leaves (after-all (fresh-held first) rs) bytes ≡ after-all (fresh-held first) (rs ++ qs))
-      × (full-leaves first (history-of first rs) bytes ≡ history-of first (rs ++ qs))
-  unfolding batch-leaves full-leaves
+      × (full-leaves (book-of first rs) (history-of first rs) bytes ≡ history-of first (rs ++ qs))
+      × (book-leaves (book-of first rs) (history-of first rs) bytes ≡ book-of first (rs ++ qs))
+  unfolding batch-leaves full-leaves book-leaves
   hands-on rs bytes =
       let items = records bytes in
       let h = after-all (fresh-held first) rs in
       let granted = eqb (batch h bytes .code) 0 in (
         cond granted items [],
         go granted,
-        ap (λ (v : Verdict). cond (eqb (v .code) 0) (history-from first (history-of first rs) items) (history-of first rs)) (sym (exactly rs bytes)) ∙ go-fully granted,
+        ap (λ (v : Verdict). cond (eqb (v .code) 0) (history-from (book-of first rs) (history-of first rs) items) (history-of first rs)) (sym (exactly rs bytes)) ∙ go-fully granted,
+        ap (λ (v : Verdict). cond (eqb (v .code) 0) (book-from (book-of first rs) (history-of first rs) items) (book-of first rs)) (sym (exactly rs bytes)) ∙ go-book granted,
       )
     where
       go : (b : Bool) → cond b (after-all (after-all (fresh-held first) rs) (records bytes)) (after-all (fresh-held first) rs)
@@ -283,6 +289,10 @@ module _ (first : ℕ) where
       go true = sym (after-append (fresh-held first) rs (records bytes))
       go false = ap (after-all (fresh-held first)) (sym (append-nil rs))
 
-      go-fully : (b : Bool) → cond b (history-from first (history-of first rs) (records bytes)) (history-of first rs) ≡ history-of first (rs ++ cond b (records bytes) [])
-      go-fully true = sym (history-append [] rs (records bytes))
+      go-fully : (b : Bool) → cond b (history-from (book-of first rs) (history-of first rs) (records bytes)) (history-of first rs) ≡ history-of first (rs ++ cond b (records bytes) [])
+      go-fully true = sym (history-append (blank-book first) [] rs (records bytes))
       go-fully false = ap (history-of first) (sym (append-nil rs))
+
+      go-book : (b : Bool) → cond b (book-from (book-of first rs) (history-of first rs) (records bytes)) (book-of first rs) ≡ book-of first (rs ++ cond b (records bytes) [])
+      go-book true = sym (book-append (blank-book first) [] rs (records bytes))
+      go-book false = ap (book-of first) (sym (append-nil rs))

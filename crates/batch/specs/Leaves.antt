@@ -22,10 +22,10 @@ numbered (NotOpen p) = verdict 3 p
 numbered (Circle p) = verdict 7 p
 numbered Length = verdict 25 0
 
--- a batch in place: what it answers, and the state then in the arrays. The next number and the free slots stay, since no item opens a job or ends one
+-- a batch in place: what it answers, and the state then in the arrays. The next number, the free slots and the ports stay, since no item opens a job or ends one
 pub record Batches (h : Held) (bytes : List ℕ) (r : Batched) (numbers leads sets : List ℕ) : Type 0 where
   pub answered : numbered r ≡ batch h bytes
-  pub left : lent (h .next) (h .free) numbers leads sets ≡ batch-leaves h bytes
+  pub left : lent (h .next) (h .free) numbers leads sets (h .ports) ≡ batch-leaves h bytes
 
 -- ---- its parts
 
@@ -37,11 +37,11 @@ Refused c = (c ≡ 1) ⊎ ((c ≡ 2) ⊎ ((c ≡ 3) ⊎ (c ≡ 7)))
 pub record Takes (h : Held) (q : Request) (c : ℕ) (numbers leads sets : List ℕ) : Type 0 where
   pub code : c ≡ item-code q (answer-to h q)
   pub known : (c ≡ 0) ⊎ Refused c
-  pub left : lent (h .next) (h .free) numbers leads sets ≡ cond (eqb c 0) (after h q) h
+  pub left : lent (h .next) (h .free) numbers leads sets (h .ports) ≡ cond (eqb c 0) (after h q) h
   pub same : numbers ≡ h .numbers
 
 -- the items one after the other until one is refused: what is left is only said where none was
 pub record Runs (h : Held) (items : List Request) (r : Batched) (numbers leads sets : List ℕ) : Type 0 where
   pub answered : numbered r ≡ first-refused 0 (codes items (answers h items))
-  pub left : numbered r .code ≡ 0 → lent (h .next) (h .free) numbers leads sets ≡ after-all h items
+  pub left : numbered r .code ≡ 0 → lent (h .next) (h .free) numbers leads sets (h .ports) ≡ after-all h items
   pub same : numbers ≡ h .numbers

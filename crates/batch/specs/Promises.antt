@@ -1,6 +1,6 @@
 -- The promises on batches, one page. Each is proved in the file that its proof cites.
 --
--- To be believed for them: Batch (the verdict, and the state and the history that a batch leaves), Host (a host's calls, one request or a batch), and what the promises of
+-- To be believed for them: Batch (the verdict, and the state, the history and its book that a batch leaves), Host (a host's calls, one request or a batch), and what the promises of
 -- held and history need. In order: what a batch gets; what it leaves; the full history; one number for code and place.
 -- Assumes nothing.
 use mathlib.Core.Path.{_≡_}
@@ -10,9 +10,9 @@ use Prim.Native.Nat.{ℕ, _≤_, _<_}
 use lib.ListN.{length}
 use Rattle.graph.specs.Lists.{_∈_}
 use Rattle.history.specs.Formats.{records}
-use Rattle.history.specs.Replies.{numbers, Request, history-of}
+use Rattle.history.specs.Replies.{numbers, Request, blank-book, history-of, book-of}
 use Rattle.held.specs.Held.{Held, fresh-held, after-all}
-use Rattle.batch.specs.Batch.{verdict, batch, batch-leaves, full-batch, full-leaves, packed}
+use Rattle.batch.specs.Batch.{verdict, batch, batch-leaves, full-batch, full-leaves, book-leaves, packed}
 use Rattle.batch.specs.Cases.{bytes, Tried, expected, outcome, table, batch-cases}
 use Rattle.batch.specs.Host.{Call, all-said, all-fully-said, calls-alike}
 use Rattle.batch.specs.Laws.{items-read, IllSized, AllGranted, FirstRefused, Means, batch-right, grants-exactly, grant-counts, grant-leaves, ill-judged, refused-first, refusal-leaves, empty-judged, exactly, hands-on, judged-small, judged-apart}
@@ -62,17 +62,18 @@ refusal-stays = refusal-leaves
 -- ---- the full history
 
 -- from a fresh state through any requests, a batch gets what the full history gives it
-pub batch-exact : (first : ℕ) (rs : List Request) (bytes : List ℕ) → batch (after-all (fresh-held first) rs) bytes ≡ full-batch first (history-of first rs) bytes
+pub batch-exact : (first : ℕ) (rs : List Request) (bytes : List ℕ) → batch (after-all (fresh-held first) rs) bytes ≡ full-batch (book-of first rs) (history-of first rs) bytes
 batch-exact = exactly
 
--- what it leaves is again a state that requests give from a fresh one, and the history is theirs
+-- what it leaves is again a state that requests give from a fresh one, and the history and its book are theirs
 pub batch-handed-on : (first : ℕ) (rs : List Request) (bytes : List ℕ) → (qs : List Request)
     × (batch-leaves (after-all (fresh-held first) rs) bytes ≡ after-all (fresh-held first) (rs ++ qs))
-    × (full-leaves first (history-of first rs) bytes ≡ history-of first (rs ++ qs))
+    × (full-leaves (book-of first rs) (history-of first rs) bytes ≡ history-of first (rs ++ qs))
+    × (book-leaves (book-of first rs) (history-of first rs) bytes ≡ book-of first (rs ++ qs))
 batch-handed-on = hands-on
 
 -- so from a fresh state through any calls, requests and batches mixed, every answer is the full history's
-pub calls-exact : (first : ℕ) (cs : List Call) → all-said (fresh-held first) cs ≡ all-fully-said first [] cs
+pub calls-exact : (first : ℕ) (cs : List Call) → all-said (fresh-held first) cs ≡ all-fully-said (blank-book first) [] cs
 calls-exact = calls-alike
 
 -- ---- one number

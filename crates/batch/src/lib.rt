@@ -1,7 +1,8 @@
 // A batch: up to 64 reads, writes and adds in one call, granted all or none. Each item is a step of the arbiter, in place. A step of these kinds moves nothing but leads and
-// sets; as they were before the first is kept on the stack, and put back where a later item is refused.
+// sets; as they were before the first is kept on the stack, and put back where a later item is refused. The ports are not lent: each contract says what holds whatever they are.
 ghost use mathlib.Core.Path.{_≡_};
-ghost use Prim.Native.Nat.{_+_, _≤_};
+ghost use mathlib.Core.List.{List};
+ghost use Prim.Native.Nat.{ℕ, _+_, _≤_};
 ghost use lib.ListN.{length, drop};
 ghost use Rattle.history.specs.Formats.{records, request-of};
 ghost use Rattle.slots.specs.Lent.{lent};
@@ -66,7 +67,7 @@ fn item_at(requests: &[u8], at: usize) -> [u8; 8]
     ]
 }
 
-// One item: the code that it gets, 0 for a grant. A batch takes no other kinds than 2, 3 and 7.
+// One item: the code that it gets, 0 for a grant. A batch takes no other kinds than 2, 3 and 7. A step looks at no ports and changes none, so that any are good enough to lend.
 fn step_item(
     next: u64,
     free: u32,
@@ -75,12 +76,13 @@ fn step_item(
     sets: &mut [u64; 512],
     item: [u8; 8],
 ) -> u32
-    ensures { λ r. ⌜ Takes (lent next free (now (numbers .entry)) (now (leads .entry)) (now (sets .entry))) (request-of item) r (now (numbers .exit)) (now (leads .exit)) (now (sets .exit)) ⌝ }
+    ensures { λ r. ⌜ ((ports : List ℕ) → Takes (lent next free (now (numbers .entry)) (now (leads .entry)) (now (sets .entry)) ports) (request-of item) r (now (numbers .exit)) (now (leads .exit)) (now (sets .exit))) ⌝ }
 {
     let kind = item[0];
     match kind {
         2 | 3 | 7 => {
-            let m = slots::step_in_place(next, free, numbers, leads, sets, item);
+            let mut ports = [0u32; 3];
+            let m = slots::step_in_place(next, free, numbers, leads, sets, &mut ports, item);
             let answer = m.answer;
             answer.code()
         }
@@ -110,7 +112,7 @@ fn run(
     sets: &mut [u64; 512],
     requests: &[u8],
 ) -> Batched
-    ensures { λ r. ⌜ Runs (lent next free (now (numbers .entry)) (now (leads .entry)) (now (sets .entry))) (records (now (requests .entry))) r (now (numbers .exit)) (now (leads .exit)) (now (sets .exit)) ⌝ }
+    ensures { λ r. ⌜ ((ports : List ℕ) → Runs (lent next free (now (numbers .entry)) (now (leads .entry)) (now (sets .entry)) ports) (records (now (requests .entry))) r (now (numbers .exit)) (now (leads .exit)) (now (sets .exit))) ⌝ }
 {
     let count = requests.len() / 8;
     let mut i: usize = 0;
@@ -134,7 +136,7 @@ pub fn batch_in_place(
     sets: &mut [u64; 512],
     requests: &[u8],
 ) -> Batched
-    ensures { λ r. ⌜ Batches (lent next free (now (numbers .entry)) (now (leads .entry)) (now (sets .entry))) (now (requests .entry)) r (now (numbers .exit)) (now (leads .exit)) (now (sets .exit)) ⌝ }
+    ensures { λ r. ⌜ ((ports : List ℕ) → Batches (lent next free (now (numbers .entry)) (now (leads .entry)) (now (sets .entry)) ports) (now (requests .entry)) r (now (numbers .exit)) (now (leads .exit)) (now (sets .exit))) ⌝ }
 {
     let bytes = requests.len();
     if bytes % 8 != 0 {
@@ -166,8 +168,8 @@ pub extern "C" fn reedtangle_batch(
     sets: &mut [u64; 512],
     requests: &[u8],
 ) -> u64
-    ensures { λ r. ⌜ (r ≡ packed (batch (lent (now (next .entry)) (now (free .entry)) (now (numbers .entry)) (now (leads .entry)) (now (sets .entry))) (now (requests .entry))))
-        × (lent (now (next .exit)) (now (free .exit)) (now (numbers .exit)) (now (leads .exit)) (now (sets .exit)) ≡ batch-leaves (lent (now (next .entry)) (now (free .entry)) (now (numbers .entry)) (now (leads .entry)) (now (sets .entry))) (now (requests .entry))) ⌝ }
+    ensures { λ r. ⌜ ((ports : List ℕ) → (r ≡ packed (batch (lent (now (next .entry)) (now (free .entry)) (now (numbers .entry)) (now (leads .entry)) (now (sets .entry)) ports) (now (requests .entry))))
+        × (lent (now (next .exit)) (now (free .exit)) (now (numbers .exit)) (now (leads .exit)) (now (sets .exit)) ports ≡ batch-leaves (lent (now (next .entry)) (now (free .entry)) (now (numbers .entry)) (now (leads .entry)) (now (sets .entry)) ports) (now (requests .entry)))) ⌝ }
 {
     let r = batch_in_place(*next, *free, numbers, leads, sets, requests);
     (r.code() as u64) * 4294967296 + (r.place() as u64)

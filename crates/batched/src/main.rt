@@ -219,12 +219,14 @@ fn ask(state: State, asked: [u8; 8]) -> Told {
     let mut numbers = state.numbers;
     let mut leads = state.leads;
     let mut sets = state.sets;
+    let mut ports = state.ports;
     let moved = arbiter::step_in_place(
         state.next,
         state.free,
         &mut numbers,
         &mut leads,
         &mut sets,
+        &mut ports,
         asked,
     );
     let answer = moved.answer;
@@ -237,6 +239,7 @@ fn ask(state: State, asked: [u8; 8]) -> Told {
             numbers: numbers,
             leads: leads,
             sets: sets,
+            ports: ports,
         },
     )
 }
@@ -283,6 +286,7 @@ fn batched(before: State, bytes: &[u8]) -> Told {
     let mut numbers = before.numbers;
     let mut leads = before.leads;
     let mut sets = before.sets;
+    let ports = before.ports;
     let r = batch::batch_in_place(
         before.next,
         before.free,
@@ -300,6 +304,7 @@ fn batched(before: State, bytes: &[u8]) -> Told {
             numbers: numbers,
             leads: leads,
             sets: sets,
+            ports: ports,
         },
     )
 }
@@ -328,6 +333,10 @@ fn same_words(a: &[u64; 512], b: &[u64; 512]) -> bool {
     true
 }
 
+fn same_ports(a: [u32; 3], b: [u32; 3]) -> bool {
+    (a[0] == b[0]) & (a[1] == b[1]) & (a[2] == b[2])
+}
+
 fn same_state(a: State, b: State) -> bool {
     let numbers_a = a.numbers;
     let numbers_b = b.numbers;
@@ -335,12 +344,15 @@ fn same_state(a: State, b: State) -> bool {
     let leads_b = b.leads;
     let sets_a = a.sets;
     let sets_b = b.sets;
+    let ports_a = a.ports;
+    let ports_b = b.ports;
     let next = a.next == b.next;
     let free = a.free == b.free;
     let numbers = same_rows(&numbers_a, &numbers_b);
     let leads = same_rows(&leads_a, &leads_b);
     let sets = same_words(&sets_a, &sets_b);
-    next & free & numbers & leads & sets
+    let ports = same_ports(ports_a, ports_b);
+    next & free & numbers & leads & sets & ports
 }
 
 fn same(a: Told, b: Told) -> bool {
@@ -418,21 +430,26 @@ fn try_batch(before: State, bytes: &[u8], counts: &mut Counts) -> State {
 
 // ---- states
 
+// An open takes the lowest free slot: those of slots 0 to 15 are of port 0, the others of port 1, so that a port has at most 16.
+fn open_for(free: u32) -> u64 {
+    request(1, 0, 0, (free % 65536 == 0) as u64)
+}
+
 // A single request between batches: an open, an end, an abandon, or a step.
-fn single(shape: u64, r: u64, numbers: &[u32; 32]) -> u64 {
+fn single(shape: u64, r: u64, free: u32, numbers: &[u32; 32]) -> u64 {
     let job = job_for(shape, r, numbers);
     let way = pick(r, 4, 0, 12);
     match way {
         0 => request(4, 0, 0, job),
         1 => request(5, 0, 0, job),
-        2 | 3 | 4 => request(1, 0, 0, 0),
+        2 | 3 | 4 => open_for(free),
         _ => step(shape, r, job),
     }
 }
 
 fn go_on(before: State, shape: u64, r: u64) -> State {
     let numbers = before.numbers;
-    let asked = bytes_of(single(shape, r, &numbers));
+    let asked = bytes_of(single(shape, r, before.free, &numbers));
     let after = ask(before, asked);
     after.state
 }
@@ -445,7 +462,7 @@ fn lead_in(shape: u64, seed: u64) -> State {
     while i < 80 {
         r = shifted(r);
         if i < of(shape, JOBS) {
-            let opened = ask(state, bytes_of(1));
+            let opened = ask(state, bytes_of(open_for(state.free)));
             state = opened.state;
         } else {
             state = go_on(state, shape, r);
@@ -496,17 +513,19 @@ fn any_words(seed: u64) -> [u64; 512] {
     words
 }
 
-// A state that no requests give: a few numbers, some of them twice, leads and sets of any content.
+// A state that no requests give: a few numbers, some of them twice, leads, sets and ports of any content.
 fn any_state(seed: u64) -> State {
     let numbers = any_rows(seed, true);
     let leads = any_rows(shifted(seed), false);
     let sets = any_words(shifted(shifted(seed)));
+    let ports = any_rows(seed, false);
     State {
         next: seed,
         free: ((seed & shifted(seed)) % 4294967296) as u32,
         numbers: numbers,
         leads: leads,
         sets: sets,
+        ports: [ports[0], ports[1], ports[2]],
     }
 }
 

@@ -38,9 +38,11 @@ fn bump(list: &mut List, i: usize, x: u64) {
     put(list, i, y);
 }
 
-// A list has its numbers from place 0 on, and their count at LENGTH. That of a history, whose numbers are records, has what was asked at ASKS and on, how many that was,
-// and the first number; and the counts stand at its end.
+// A list has its numbers from place 0 on, and their count at LENGTH. That of a history, whose numbers are records, has what was asked at ASKS and on, the ports of its opens at PORTS and on, how
+// many were asked, and the first number; and the counts stand at its end.
 const ASKS: usize = 2048;
+
+const PORTS: usize = 4096;
 
 const LENGTH: usize = 4200;
 
@@ -109,6 +111,28 @@ fn count(h: &List, such: u64) -> u64 {
     let mut i: usize = 0;
     while i < n {
         sum = std::num::wrapping_add_u64(sum, is_such(h, i, such) as u64);
+        i += 1;
+    }
+    sum
+}
+
+// A log does not hold ports: that of the open at place i of the records stands apart, 32 to a number.
+fn port_at(h: &List, i: usize) -> u64 {
+    at(h, PORTS | i / 32) >> (i % 32 * 2) & 3
+}
+
+fn put_port(h: &mut List, i: usize, port: u64) {
+    bump(h, PORTS | i / 32, port % 4 << (i % 32 * 2));
+}
+
+// How many jobs of a port are open?
+fn crowd(h: &List, port: u64) -> u64 {
+    let n = size(h);
+    let mut sum: u64 = 0;
+    let mut i: usize = 0;
+    while i < n {
+        let here = is_such(h, i, OPEN) & (port_at(h, i) == port);
+        sum = std::num::wrapping_add_u64(sum, here as u64);
         i += 1;
     }
     sum
@@ -229,13 +253,19 @@ fn closes(h: &List, i: usize) -> bool {
     has_circle(&only(&w, ENDED))
 }
 
-fn decide_open(h: &List) -> u64 {
+fn decide_open(h: &List, port: u64) -> u64 {
     let number = std::num::wrapping_add_u64(at(h, FIRST), count(h, OPENED));
     if 4294967295 < number {
         return 6;
     }
+    if 2 < port {
+        return 8;
+    }
     if 32 <= count(h, OPEN) {
         return 5;
+    }
+    if 16 <= crowd(h, port) {
+        return 9;
     }
     number << 32
 }
@@ -273,7 +303,7 @@ fn decide(h: &List, i: usize) -> u64 {
         return decide_publish(h, i);
     }
     match asked % 65536 {
-        1 => decide_open(h),
+        1 => decide_open(h, asked >> 32),
         2 | 5 => decide_job(asked, marks_of(h, size(h), asked >> 32)),
         _ => 1,
     }
@@ -287,7 +317,7 @@ fn kept(asked: u64, answer: u64) -> u64 {
     asked % 256 | answer
 }
 
-// What is granted is kept.
+// What is granted is kept, an open with its port.
 fn keep(h: &mut List, i: usize, answer: u64) {
     if answer % 256 != 0 {
         return;
@@ -297,6 +327,9 @@ fn keep(h: &mut List, i: usize, answer: u64) {
         return;
     }
     let asked = at(h, place(i, REQUEST));
+    if asked % 256 == 1 {
+        put_port(h, size(h), asked >> 32);
+    }
     add(h, kept(asked, answer));
 }
 
@@ -391,9 +424,9 @@ fn is_ordered(h: &List) -> bool {
 
 const COUNTS: usize = 4352;
 
-const RECORDS: u64 = 2048;
+const RECORDS: u64 = 8192;
 
-const HISTORIES: u64 = 4096;
+const HISTORIES: u64 = 16384;
 
 // What is to be counted is one number, whose bits are one more at each such place.
 fn tally(h: &mut List, what: u64) {
@@ -406,8 +439,8 @@ fn tally(h: &mut List, what: u64) {
 
 fn what_of(mine: u64, theirs: u64, wanted: u64, publish: u64) -> u64 {
     let differ = (mine != theirs) | (mine != wanted);
-    let granted = publish << 10 & ((mine % 256 == 0) as u64) << 10;
-    differ as u64 | 2 | 4 << (mine % 8) | granted
+    let granted = publish << 12 & ((mine % 256 == 0) as u64) << 12;
+    differ as u64 | 2 | 4 << (mine % 16) | granted
 }
 
 // What is wanted of the ask that stands last.
@@ -595,7 +628,7 @@ fn main() {
     try_text(&mut h, &space[..count]);
     say_all(
         &h,
-        b"# differ of # asks; codes 0 to 7: # # # # # # # #; # publishes granted, # records, # histories
+        b"# differ of # asks; codes 0 to 9: # # # # # # # # # #; # publishes granted, # records, # histories
 ",
     );
 }

@@ -1,9 +1,9 @@
--- Computed tables of the held rule: the cases of the full history (`held-cases`); histories of our own that show the slots and the order of the
+-- Computed tables of the held rule: the cases of the full history (`held-cases`, and those of ports, `held-port-cases`); histories of our own that show the slots and the order of the
 -- codes (`own-histories`); states that no requests give, with the answer to a request (`made-up-answers`) and, for some, the next state (`made-up-rows`; of
 -- all, to the last word, in crate `made`).
 --
--- A made-up state is written as what it means: the next number, the open slots, and for the lowest slots a row, open or not, of a number, the slots
--- led to and the cells of the four sets; the rows of the other slots are blank.
+-- A made-up state is written as what it means: the next number, the open slots, the slots of each port, open or not, and for the lowest slots a row, open or not, of a number,
+-- the slots led to and the cells of the four sets; the rows of the other slots are blank.
 -- Assumes nothing.
 use mathlib.Core.Path.{_≡_, refl}
 use mathlib.Core.Logic.{⊎-elim}
@@ -15,18 +15,18 @@ use lib.Bits.{bitOr}
 use lib.Dec.{eqb}
 use lib.ListN.{length, replicate, take}
 use Rattle.graph.specs.Lists.{_∈_}
-use Rattle.marks.specs.Marks.{bit, mask-of, without, tab}
+use Rattle.marks.specs.Marks.{bit, mask-of, without, tab, upto}
 use Rattle.history.specs.Events.{has}
 use Rattle.history.specs.Replies.{most-open, Request, Reply, want, tests, code-of, job-of, reply-of}
-use Rattle.history.specs.Cases.{open-one, reads, writes, adds, end, abandon, publishes, granted, refused, Exchange, _gets_, opens-from, Case, requests-of, replies-of, p-table, own-table, rows}
-use Rattle.held.specs.Held.{Held, word-marks, set-words, row-words, all-words, fresh-held, number-at, leads-at, word-at, open-at, open-slots, cell-at, slot-of, meets, touched, chain-back, altered, facts, has-past, opened-at, stepped-at, left-at, ended-at, abandoned-at, free-slot, moved, answer-to, after, answers, after-all}
+use Rattle.history.specs.Cases.{open-one, reads, writes, adds, end, abandon, publishes, granted, refused, Exchange, _gets_, opens-from, Case, requests-of, replies-of, p-table, own-table, Ports, port-table, rows}
+use Rattle.held.specs.Held.{Held, word-marks, set-words, row-words, all-words, fresh-held, number-at, leads-at, port-at, word-at, open-at, open-slots, cell-at, slot-of, meets, touched, chain-back, altered, facts, has-past, opened-at, stepped-at, left-at, ended-at, abandoned-at, free-slot, moved, answer-to, after, answers, after-all}
 
 -- ---- the cases of the full history
 
 -- opens every definition that the rule computes with, so that a table needs to open only this one
 unfoldable pub held-answers : Case → List Reply
 unfolding want tests code-of job-of reply-of meets bit without
-    fresh-held number-at leads-at word-at open-at open-slots cell-at slot-of touched chain-back altered facts
+    fresh-held number-at leads-at port-at word-at open-at open-slots cell-at slot-of touched chain-back altered facts
     has-past opened-at stepped-at left-at ended-at abandoned-at free-slot moved answer-to after
 held-answers c = answers (fresh-held (c .first)) (requests-of c)
 
@@ -42,7 +42,20 @@ held-own-cases c = rows held-answers replies-of (refl, (refl, (refl, (refl, (ref
 pub held-cases : (c : Case) → c ∈ p-table ++ own-table → answers (fresh-held (c .first)) (requests-of c) ≡ replies-of c
 held-cases c m = ⊎-elim (held-p-cases c) (held-own-cases c) (List·Memᴰ·append-cases p-table m)
 
+-- and so in every case of ports
+unfoldable pub port-answers : Ports → List Reply
+unfolding held-answers
+port-answers c = answers (fresh-held (c .first)) (map (λ e. e .asked) (c .exchanges))
+
+pub held-port-cases : (c : Ports) → c ∈ port-table → answers (fresh-held (c .first)) (map (λ e. e .asked) (c .exchanges)) ≡ map (λ e. e .answered) (c .exchanges)
+unfolding port-answers
+held-port-cases c = rows port-answers (λ c. map (λ e. e .answered) (c .exchanges)) (refl, (refl, (refl, (refl, (refl, (refl, tt))))))
+
 -- ---- histories of our own
+
+-- an open of port p
+abbrev pub open-of : ℕ → Request
+open-of p = Rattle.history.specs.Cases.open-at p
 
 -- a first number, the exchanges, and then for some job numbers the slot that is meant by each
 pub record Tried : Type 0 where
@@ -69,14 +82,26 @@ seen t =
 abbrev pub request : ℕ → ℕ → ℕ → ℕ → Request
 request k b c j = record { kind = k; byte1 = b; cell = c; job = j }
 
--- 32 opens take the slots in order and the 33rd is refused; the slot of job 6 is free when it has ended, and the next job takes it
+-- the slot of job 1, of port 0, goes to a job of port 1, and counts for port 1 alone: port 0 has room for one more, in a slot of its own
+abbrev pub slot-changes-port : Tried
+slot-changes-port =
+    record {
+      first = 1;
+      exchanges =
+          opens-from 0 16 1 ++ open-of 0 gets refused 9
+          ∷ end 1 gets granted 1 ∷ open-of 1 gets granted 17 ∷ open-of 0 gets granted 18 ∷ open-of 0 gets refused 9 ∷ [];
+      jobs = 1 ∷ 2 ∷ 17 ∷ 18 ∷ [];
+      slots = none ∷ some 1 ∷ some 0 ∷ some 16 ∷ [];
+    }
+
+-- 32 opens, 16 of port 0 and 16 of port 1, take the slots in order and the 33rd is refused; the slot of job 6 is free when it has ended, and the next job takes it
 abbrev pub all-slots : Tried
 all-slots =
     record {
       first = 1;
       exchanges =
-          opens-from 32 1 ++ open-one gets refused 5
-          ∷ end 6 gets granted 6 ∷ open-one gets granted 33 ∷ open-one gets refused 5 ∷ [];
+          opens-from 0 16 1 ++ opens-from 1 16 17 ++ open-of 2 gets refused 5
+          ∷ end 6 gets granted 6 ∷ open-of 2 gets granted 33 ∷ open-of 2 gets refused 5 ∷ [];
       jobs = 1 ∷ 5 ∷ 6 ∷ 7 ∷ 32 ∷ 33 ∷ 34 ∷ [];
       slots = some 0 ∷ some 4 ∷ none ∷ some 6 ∷ some 31 ∷ some 5 ∷ none ∷ [];
     }
@@ -87,7 +112,7 @@ lowest-taken =
     record {
       first = 1;
       exchanges =
-          opens-from 4 1 ++ end 3 gets granted 3 ∷ abandon 1 gets granted 1
+          opens-from 0 4 1 ++ end 3 gets granted 3 ∷ abandon 1 gets granted 1
           ∷ open-one gets granted 5 ∷ open-one gets granted 6 ∷ open-one gets granted 7 ∷ [];
       jobs = 1 ∷ 2 ∷ 3 ∷ 4 ∷ 5 ∷ 6 ∷ 7 ∷ [];
       slots = none ∷ some 1 ∷ none ∷ some 3 ∷ some 0 ∷ some 2 ∷ some 4 ∷ [];
@@ -99,8 +124,8 @@ last-number =
     record {
       first = 4_294_967_264;
       exchanges =
-          opens-from 32 4_294_967_264 ++ open-one gets refused 6
-          ∷ end 4_294_967_295 gets granted 4_294_967_295 ∷ open-one gets refused 6 ∷ [];
+          opens-from 0 16 4_294_967_264 ++ opens-from 1 16 4_294_967_280 ++ open-of 2 gets refused 6
+          ∷ end 4_294_967_295 gets granted 4_294_967_295 ∷ open-of 2 gets refused 6 ∷ [];
       jobs = 4_294_967_264 ∷ 4_294_967_294 ∷ 4_294_967_295 ∷ [];
       slots = some 0 ∷ some 30 ∷ none ∷ [];
     }
@@ -120,14 +145,14 @@ code-one =
       slots = some 0 ∷ none ∷ [];
     }
 
--- 2 before 3 for a step, 3 before 4 for an abandon; cell 255 is a cell; the 0 of a blank row is no job; job and cell of an open are not looked at,
--- nor is the cell of an end or an abandon
+-- 2 before 3 for a step, 3 before 4 for an abandon; cell 255 is a cell; the 0 of a blank row is no job; the cell of an open is not looked at, nor
+-- is that of an end or an abandon
 abbrev pub codes-in-order : Tried
 codes-in-order =
     record {
       first = 1;
       exchanges =
-          request 1 0 256 77 gets granted 1 ∷ open-one gets granted 2
+          request 1 0 256 2 gets granted 1 ∷ open-one gets granted 2
           ∷ reads 1 255 gets granted 1 ∷ reads 1 256 gets refused 2
           ∷ reads 8 256 gets refused 2 ∷ writes 8 65535 gets refused 2 ∷ reads 8 255 gets refused 3
           ∷ reads 0 5 gets refused 3 ∷ end 0 gets refused 3 ∷ abandon 0 gets refused 3
@@ -151,12 +176,12 @@ job-zero =
     }
 
 abbrev pub tried-table : List Tried
-tried-table = lowest-taken ∷ all-slots ∷ last-number ∷ code-one ∷ codes-in-order ∷ job-zero ∷ []
+tried-table = lowest-taken ∷ slot-changes-port ∷ all-slots ∷ last-number ∷ code-one ∷ codes-in-order ∷ job-zero ∷ []
 
 -- every history of the table is answered as written, and the jobs stand in the slots as written
 pub own-histories : (t : Tried) → t ∈ tried-table → seen t ≡ to-see t
 unfolding seen
-own-histories t = rows seen to-see (refl, (refl, (refl, (refl, (refl, (refl, tt))))))
+own-histories t = rows seen to-see (refl, (refl, (refl, (refl, (refl, (refl, (refl, tt)))))))
 
 -- ---- states written as what they mean
 
@@ -171,6 +196,7 @@ pub record Row : Type 0 where
 pub record State : Type 0 where
   pub next : ℕ
   pub slots : List ℕ
+  pub ports : List (List ℕ)
   pub rows : List Row
 
 -- four words for the cells of a set: each cell's mark stands in its word
@@ -195,6 +221,7 @@ held-of s =
       numbers = map (λ r. r .number) (s .rows) ++ replicate (most-open - n) 0;
       leads = map (λ r. mask-of most-open (has (r .leads))) (s .rows) ++ replicate (most-open - n) 0;
       sets = words-of (s .rows) ++ replicate (all-words - n * row-words) 0;
+      ports = map (λ l. mask-of most-open (has l)) (s .ports);
     }
 
 -- ---- states that no requests give
@@ -216,7 +243,7 @@ made-up-next m = after (held-of (m .before)) (m .asked)
 
 -- a state cut down to the words of its first six rows
 abbrev pub first-rows : Held → Held
-first-rows h = record { next = h .next; free = h .free; numbers = h .numbers; leads = h .leads; sets = take (6 * row-words) (h .sets) }
+first-rows h = record { next = h .next; free = h .free; numbers = h .numbers; leads = h .leads; sets = take (6 * row-words) (h .sets); ports = h .ports }
 
 -- a refusal leaves the state
 abbrev pub refusal : State → Request → ℕ → MadeUp
@@ -236,8 +263,12 @@ with-own n l us vs = record { number = n; leads = l; own-used = us; own-altered 
 abbrev pub with-past : ℕ → List ℕ → List ℕ → List ℕ → Row
 with-past n l us vs = record { number = n; leads = l; own-used = []; own-altered = []; past-used = us; past-altered = vs }
 
+-- no slot has a port; and the same with slots of the ports 0, 1 and 2
 abbrev pub state : ℕ → List ℕ → List Row → State
-state n o rs = record { next = n; slots = o; rows = rs }
+state n o rs = record { next = n; slots = o; ports = [] ∷ [] ∷ [] ∷ []; rows = rs }
+
+abbrev pub ported : List ℕ → List ℕ → List ℕ → State → State
+ported a b c s = record { next = s .next; slots = s .slots; ports = a ∷ b ∷ c ∷ []; rows = s .rows }
 
 -- one number in three slots, the lowest of them not open: the lower open slot, 1, is meant. Slot 2 is another job though it has the same number:
 -- it has read the cell, so it comes to lead to slot 1. The write marks both sets
@@ -377,7 +408,7 @@ open-blanks =
           );
       asked = open-one;
       answered = granted 9;
-      left = state 10 (0 ∷ 1 ∷ 2 ∷ []) (with-own 6 (0 ∷ 2 ∷ 3 ∷ []) (5 ∷ []) [] ∷ bare 9 [] ∷ bare 8 [] ∷ with-past 4 (2 ∷ []) (5 ∷ []) (6 ∷ []) ∷ []);
+      left = ported (1 ∷ []) [] [] (state 10 (0 ∷ 1 ∷ 2 ∷ []) (with-own 6 (0 ∷ 2 ∷ 3 ∷ []) (5 ∷ []) [] ∷ bare 9 [] ∷ bare 8 [] ∷ with-past 4 (2 ∷ []) (5 ∷ []) (6 ∷ []) ∷ []));
     }
 
 -- an open slot that has a past, used or altered, comes to lead to the new job and keeps its other leads, slots 0 and 2. Slot 3 has steps of its own alone and slot 4 is
@@ -391,38 +422,41 @@ open-led-to =
           with-past 5 [] (0 ∷ []) [] ∷ with-past 6 (0 ∷ []) (7 ∷ []) []
           ∷ with-past 7 (0 ∷ 1 ∷ 4 ∷ []) [] (255 ∷ []) ∷ with-own 8 (1 ∷ 2 ∷ []) (5 ∷ []) (6 ∷ []) ∷ with-past 4 (0 ∷ 1 ∷ []) (5 ∷ []) (6 ∷ []) ∷ []
           );
-      asked = open-one;
+      asked = open-of 2;
       answered = granted 9;
       left =
-          state 10 (0 ∷ 1 ∷ 2 ∷ 3 ∷ [])
+          ported [] [] (1 ∷ [])
+          (state 10 (0 ∷ 1 ∷ 2 ∷ 3 ∷ [])
           (
           with-past 5 (1 ∷ []) (0 ∷ []) [] ∷ bare 9 []
           ∷ with-past 7 (0 ∷ 1 ∷ 4 ∷ []) [] (255 ∷ []) ∷ with-own 8 (2 ∷ []) (5 ∷ []) (6 ∷ []) ∷ with-past 4 (0 ∷ []) (5 ∷ []) (6 ∷ []) ∷ []
-          );
+          ));
     }
 
 -- an end hands own, past and the leads to open slots on to the open slots that lead to it, 1 and 4, and to no other; its mark is struck in every
--- row, open or not. Slot 3 is not open: it takes nothing over, its mark is not handed on, and where it was held before it stays
+-- row, open or not. Slot 3 is not open: it takes nothing over, its mark is not handed on, and where it was held before it stays. The ports keep their slots, the one that is left too
 abbrev pub end-hands-on : MadeUp
 end-hands-on =
     record {
       before =
-          state 9 (0 ∷ 1 ∷ 2 ∷ 4 ∷ [])
+          ported (0 ∷ 1 ∷ []) (0 ∷ 3 ∷ []) (2 ∷ 4 ∷ [])
+          (state 9 (0 ∷ 1 ∷ 2 ∷ 4 ∷ [])
           (
           record { number = 5; leads = 0 ∷ 1 ∷ 2 ∷ 3 ∷ []; own-used = 5 ∷ []; own-altered = 6 ∷ []; past-used = 70 ∷ []; past-altered = 255 ∷ [] }
           ∷ record { number = 6; leads = 0 ∷ []; own-used = 1 ∷ []; own-altered = []; past-used = 2 ∷ []; past-altered = [] }
           ∷ with-own 7 (1 ∷ []) [] (4 ∷ []) ∷ with-own 8 (0 ∷ 2 ∷ []) [] (3 ∷ []) ∷ bare 5 (0 ∷ 3 ∷ []) ∷ []
-          );
+          ));
       asked = end 5;
       answered = granted 5;
       left =
-          state 9 (1 ∷ 2 ∷ 4 ∷ [])
+          ported (0 ∷ 1 ∷ []) (0 ∷ 3 ∷ []) (2 ∷ 4 ∷ [])
+          (state 9 (1 ∷ 2 ∷ 4 ∷ [])
           (
           blank
           ∷ record { number = 6; leads = 1 ∷ 2 ∷ []; own-used = 1 ∷ []; own-altered = []; past-used = 2 ∷ 5 ∷ 70 ∷ []; past-altered = 6 ∷ 255 ∷ [] }
           ∷ with-own 7 (1 ∷ []) [] (4 ∷ []) ∷ with-own 8 (2 ∷ []) [] (3 ∷ [])
           ∷ with-past 5 (1 ∷ 2 ∷ 3 ∷ []) (5 ∷ 70 ∷ []) (6 ∷ 255 ∷ []) ∷ []
-          );
+          ));
     }
 
 -- a publish hands on what its slot has after the write, to the slots that lead to it after the write: slot 1 has read the cell, and slot 3, not open, takes nothing over
@@ -465,24 +499,56 @@ abandon-strikes =
 abbrev pub abandon-barred : MadeUp
 abandon-barred = refusal (state 9 (0 ∷ []) (with-own 6 [] [] (255 ∷ []) ∷ [])) (abandon 6) 4
 
+-- an open slot counts for every port that has it: slots 8 to 15 count for ports 0 and 1, and of 24 open slots each has 16. Port 2 has 15, and then one more
+abbrev pub of-two-ports : State
+of-two-ports = ported (upto 16) (tab 16 (λ i. i + 8)) (tab 15 (λ i. i + 2)) (state 9 (upto 24) [])
+
+abbrev pub two-ports-first : MadeUp
+two-ports-first = refusal of-two-ports (open-of 0) 9
+
+abbrev pub two-ports-second : MadeUp
+two-ports-second = refusal of-two-ports (open-of 1) 9
+
+-- a slot that is not open counts for none: of the 32 slots of port 1, 15 are open, and the job is opened in slot 0. The slot is of port 1 then and of no other: ports 0 and 2 had
+-- it, and keep slot 3
+abbrev pub not-open-counts-not : MadeUp
+not-open-counts-not =
+    record {
+      before = ported (0 ∷ 3 ∷ []) (upto 32) (0 ∷ 3 ∷ []) (state 9 (tab 15 (λ i. i + 1)) []);
+      asked = open-of 1;
+      answered = granted 9;
+      left = ported (3 ∷ []) (upto 32) (3 ∷ []) (state 10 (upto 16) (bare 9 [] ∷ []));
+    }
+
+-- 8 before 5, and 5 before 9: every slot is open, and of port 0
+abbrev pub all-of-one-port : State
+all-of-one-port = ported (upto 32) [] [] (state 9 (upto 32) [])
+
+abbrev pub no-port-no-slot : MadeUp
+no-port-no-slot = refusal all-of-one-port (open-of 3) 8
+
+abbrev pub no-slot-port-full : MadeUp
+no-slot-port-full = refusal all-of-one-port (open-of 0) 5
+
 abbrev pub made-up-table : List MadeUp
 made-up-table =
     one-number-twice ∷ one-number-ended ∷ one-number-published ∷ number-not-open
     ∷ leads-to-itself ∷ leads-to-itself-cell ∷ leads-to-itself-ends ∷ leads-to-itself-publishes ∷ old-circle ∷ circle-beside
     ∷ held-and-new ∷ past-of-asker ∷ past-of-other ∷ adds-beside ∷ add-after-read ∷ not-open-ignored
-    ∷ past-last-number ∷ open-blanks ∷ open-led-to ∷ end-hands-on ∷ publish-hands-on ∷ abandon-strikes ∷ abandon-barred ∷ []
+    ∷ past-last-number ∷ open-blanks ∷ open-led-to ∷ end-hands-on ∷ publish-hands-on ∷ abandon-strikes ∷ abandon-barred
+    ∷ two-ports-first ∷ two-ports-second ∷ not-open-counts-not ∷ no-port-no-slot ∷ no-slot-port-full ∷ []
 
 -- every made-up state of the table gives the answer as written
 pub made-up-answers : (m : MadeUp) → m ∈ made-up-table → answer-to (held-of (m .before)) (m .asked) ≡ m .answered
 unfolding made-up-answer
-made-up-answers m = rows made-up-answer (λ m. m .answered) (refl, (refl, (refl, (refl, (refl, (refl, (refl, (refl, (refl, (refl, (refl, (refl, (refl, (refl, (refl, (refl, (refl, (refl, (refl, (refl, (refl, (refl, (refl, tt)))))))))))))))))))))))
+made-up-answers m = rows made-up-answer (λ m. m .answered) (refl, (refl, (refl, (refl, (refl, (refl, (refl, (refl, (refl, (refl, (refl, (refl, (refl, (refl, (refl, (refl, (refl, (refl, (refl, (refl, (refl, (refl, (refl, (refl, (refl, (refl, (refl, (refl, tt))))))))))))))))))))))))))))
 
 -- the rows whose next state is compared here: those by which a wrong move is told that no answer of the tables above tells
 abbrev pub moved-table : List MadeUp
-moved-table = one-number-ended ∷ adds-beside ∷ add-after-read ∷ not-open-ignored ∷ open-blanks ∷ open-led-to ∷ end-hands-on ∷ []
+moved-table = one-number-ended ∷ adds-beside ∷ add-after-read ∷ not-open-ignored ∷ open-blanks ∷ open-led-to ∷ end-hands-on ∷ two-ports-first ∷ not-open-counts-not ∷ []
 
--- they leave the next state as written: the next number, the free slots, every number, every lead, and the words of the first six rows. No row of the
--- table uses a slot above 4. All rows of the whole table are compared in crate `made` (`made-up-states`), with the whole 512 words, apart, so that an edit of the rule is refused sooner
+-- they leave the next state as written: the next number, the free slots, the slots of each port, every number, every lead, and the words of the first six rows. No row of the
+-- table has words above row 4. All rows of the whole table are compared in crate `made` (`made-up-states`), with the whole 512 words, apart, so that an edit of the rule is refused sooner
 pub made-up-rows : (m : MadeUp) → m ∈ moved-table → first-rows (after (held-of (m .before)) (m .asked)) ≡ first-rows (held-of (m .left))
 unfolding made-up-next
-made-up-rows m = rows (λ m. first-rows (made-up-next m)) (λ m. first-rows (held-of (m .left))) (refl, (refl, (refl, (refl, (refl, (refl, (refl, tt)))))))
+made-up-rows m = rows (λ m. first-rows (made-up-next m)) (λ m. first-rows (held-of (m .left))) (refl, (refl, (refl, (refl, (refl, (refl, (refl, (refl, (refl, tt)))))))))

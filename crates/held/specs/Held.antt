@@ -1,11 +1,11 @@
 -- What the 32 slots hold, on lists of numbers, and the rule over it, total for any content and exact to the last bit.
 --
--- A state is the next number, a mask of the free slots, and for each slot a row: a job number, a mask of the slots it leads to, and sixteen
+-- A state is the next number, a mask of the free slots, for each port a mask of its slots, and for each slot a row: a job number, a mask of the slots it leads to, and sixteen
 -- words, four for each cell set: own used, own altered, past used, past altered. A read uses its cell, an add alters it, a write does both; two steps on a
 -- cell clash exactly when one uses it and the other alters it (`clash-shows`), so that two sets are enough for three kinds. The facts that the codes ask are
 -- read off a state (`facts`), and a grant moves it (`after`). For states that no requests give this is how document 01 is read: the lowest open slot that
 -- holds the number is meant; what is held is taken as it is; new leads are added first, and then any chain of leads over open slots from the asking slot
--- back to it gives 7; rows and marks of slots that are not open count for nothing.
+-- back to it gives 7; rows and marks of slots that are not open count for nothing; an open slot counts for every port whose mask has it.
 -- Assumes nothing.
 use mathlib.Core.Path.{_≡_, refl}
 use mathlib.Core.Bool.{Bool, true, false, not, _&&_, _||_, cond}
@@ -21,7 +21,7 @@ use Rattle.graph.specs.Reach.{reach}
 use Rattle.marks.specs.Marks.{bit, mask-of, without, tab, upto}
 use Rattle.marks.specs.Words.{empty}
 use Rattle.history.specs.Events.{Kind, read, write, add, alters, kinds-clash}
-use Rattle.history.specs.Replies.{most-open, Request, Reply, Want, an-open, a-step, an-end, an-abandon, a-publish, nothing, want, Facts, code-of, reply-of}
+use Rattle.history.specs.Replies.{most-open, port-count, Request, Reply, Want, an-open, a-step, an-end, an-abandon, a-publish, nothing, want, Facts, code-of, reply-of}
 
 pub record Held : Type 0 where
   pub next : ℕ
@@ -29,6 +29,7 @@ pub record Held : Type 0 where
   pub numbers : List ℕ
   pub leads : List ℕ
   pub sets : List ℕ
+  pub ports : List ℕ
 
 -- words of 64 marks; four to a cell set; sixteen to a row, own before past
 abbrev pub word-marks : ℕ
@@ -88,6 +89,7 @@ fresh-held first =
       numbers = tab most-open (λ i. 0);
       leads = tab most-open (λ i. 0);
       sets = tab all-words (λ w. 0);
+      ports = tab port-count (λ p. 0);
     }
 
 -- ---- reading a state
@@ -97,6 +99,10 @@ number-at h i = getD (h .numbers) i 0
 
 unfoldable pub leads-at : Held → ℕ → ℕ
 leads-at h i = getD (h .leads) i 0
+
+-- the slots of port p
+unfoldable pub port-at : Held → ℕ → ℕ
+port-at h p = getD (h .ports) p 0
 
 -- word o of row i
 unfoldable pub word-at : Held → ℕ → ℕ → ℕ
@@ -168,6 +174,7 @@ facts h =
       is-open = λ j. is-some (slot-of h j);
       has-written = λ j. at-slot (slot-of h j) (altered h);
       count = length (open-slots h);
+      crowd = λ p. length (only (bit (port-at h p)) (open-slots h));
       next = h .next;
       closes = λ k j c. at-slot (slot-of h j) (λ s. chain-back h k s c);
     }
@@ -178,15 +185,16 @@ facts h =
 unfoldable pub has-past : Held → ℕ → Bool
 has-past h i = some-of (λ a. not (empty (set-at h i (past-place + set-place a)))) aspects
 
--- the new job goes into slot s: its row is blank but for the number, the open rows that have a past lead to it, and no other row does
-unfoldable pub opened-at : Held → ℕ → Held
-opened-at h s =
+-- the new job goes into slot s: its row is blank but for the number, the open rows that have a past lead to it, and no other row does; of the ports, p alone has the slot
+unfoldable pub opened-at : Held → ℕ → ℕ → Held
+opened-at h p s =
     record {
       next = suc (h .next);
       free = without (h .free) s;
       numbers = tab most-open (λ i. cond (eqb i s) (h .next) (number-at h i));
       leads = tab most-open (λ i. cond (eqb i s) 0 (let n = without (leads-at h i) s in cond (open-at h i && has-past h i) (bitOr n (2 ^ s)) n));
       sets = tab all-words (λ w. cond (eqb (w / row-words) s) 0 (getD (h .sets) w 0));
+      ports = tab port-count (λ q. let n = without (port-at h q) s in cond (eqb q p) (bitOr n (2 ^ s)) n);
     }
 
 -- is word w the one of cell c in an own set of slot s that a step of kind k marks? A read marks the used, an add the altered, a write both
@@ -203,9 +211,11 @@ stepped-at h k s c =
       leads = tab most-open (λ i. cond (open-at h i && touched h k s c i) (bitOr (leads-at h i) (2 ^ s)) (leads-at h i));
       sets =
           tab all-words (λ w. cond (marks-word k s c w) (bitOr (getD (h .sets) w 0) (2 ^ (c % word-marks))) (getD (h .sets) w 0));
+      ports = h .ports;
     }
 
--- slot s is left: its row is blank, no row leads to it, and the rows that pass t take over its own, its past and its leads to open slots
+-- slot s is left: its row is blank, no row leads to it, and the rows that pass t take over its own, its past and its leads to open slots. The ports' masks
+-- keep it: a slot that is not open counts for no port, and the next open of the slot puts it under its own port
 unfoldable pub left-at : Held → (ℕ → Bool) → ℕ → Held
 left-at h t s =
     record {
@@ -220,6 +230,7 @@ left-at h t s =
           let o = w % row-words in
           cond (eqb i s) 0
           (cond (t i && leb past-place o) (bitOr (getD (h .sets) w 0) (bitOr (word-at h s (o - past-place)) (word-at h s o))) (getD (h .sets) w 0)));
+      ports = h .ports;
     }
 
 -- an end: every other open row that leads to s takes over
@@ -245,7 +256,7 @@ free-slot h = first-in (only (bit (h .free)) (upto most-open))
 
 -- a publish is the step of a write and then the end, at the same slot
 unfoldable pub moved : Held → Want → ℕ → ℕ → Held
-moved h an-open j c = with-slot (free-slot h) (λ s. opened-at h s) h
+moved h an-open j c = with-slot (free-slot h) (λ s. opened-at h j s) h
 moved h (a-step k) j c = with-slot (slot-of h j) (λ s. stepped-at h k s c) h
 moved h an-end j c = with-slot (slot-of h j) (λ s. ended-at h s) h
 moved h an-abandon j c = with-slot (slot-of h j) (λ s. abandoned-at h s) h

@@ -18,11 +18,11 @@ use Rattle.graph.specs.Lists.{_∈_, here, only, only-keeps, only-from, only-bo
 use Rattle.marks.specs.Marks.{bit, mask-of, without, upto}
 use Rattle.marks.specs.MarkLaws.{length-tab, upto-has, upto-from, upto-rises, bit-zero, bit-pow, or-unmarked, and-unmarked, without-below, without-zero, without-struck, without-unmarked, mask-lt}
 use Rattle.history.specs.Events.{Kind, write}
-use Rattle.history.specs.Replies.{cells, most-open, numbers, Request, Want, an-open, a-step, an-end, a-publish, want, first-of, tests, code-of}
+use Rattle.history.specs.Replies.{cells, most-open, numbers, port-count, most-of-port, Request, Want, an-open, a-step, an-end, a-publish, want, first-of, tests, code-of}
 use Rattle.history_laws.specs.ReplyLaws.{as-kind, publish-reply}
 use Rattle.history_laws.specs.Granted.{below-bound, passed, undenied, proper-step}
-use Rattle.held.specs.Held.{Held, row-words, past-place, all-words, fresh-held, number-at, leads-at, word-at, open-at, open-slots, touched, first-in, is-some, slot-of, facts, has-past, opened-at, stepped-at, left-at, ended-at, with-slot, free-slot, moved, answer-to, after, after-all}
-use Rattle.held_laws.specs.HeldMoves.{read-tab, number-opened, leads-opened, leads-stepped, number-left, leads-left, row-opened, row-stepped, row-left, Fits, fresh-fits, opened-fits, stepped-fits, left-fits, Moves, kept-after, kept-after-all}
+use Rattle.held.specs.Held.{Held, row-words, past-place, all-words, fresh-held, number-at, leads-at, port-at, word-at, open-at, open-slots, touched, first-in, is-some, slot-of, facts, has-past, opened-at, stepped-at, left-at, ended-at, with-slot, free-slot, moved, answer-to, after, after-all}
+use Rattle.held_laws.specs.HeldMoves.{read-tab, number-opened, leads-opened, port-opened, leads-stepped, number-left, leads-left, row-opened, row-stepped, row-left, Fits, fresh-fits, opened-fits, stepped-fits, left-fits, Moves, kept-after, kept-after-all}
 use Rattle.held_laws.specs.HeldLaws.{own-inside, marks-test, opened-open-at, left-open-at}
 
 -- ---- ranges
@@ -37,6 +37,8 @@ pub record Ranges (h : Held) : Type 0 where
   pub number : (i : ℕ) → i < most-open → number-at h i < numbers
   pub leads : (i : ℕ) → i < most-open → leads-at h i < 2 ^ most-open
   pub words : Fits h
+  pub port-masks : length (h .ports) ≡ port-count
+  pub port : (p : ℕ) → p < port-count → port-at h p < 2 ^ most-open
 
 -- a bound carried over an equation
 below-as : {x y n : ℕ} → x ≡ y → y < n → x < n
@@ -44,25 +46,29 @@ below-as e q = omega arith
 
 module _ {h : Held} (r : Ranges h) (s : ℕ) (q : s < most-open) where
   -- each move keeps to them
-  ranges-opened : h .next < numbers → Ranges (opened-at h s)
+  ranges-opened : (o : ℕ) → h .next < numbers → Ranges (opened-at h o s)
   unfolding opened-at
-  ranges-opened small =
+  ranges-opened o small =
       record {
         next = omega arith;
         free = without-below (h .free) s most-open (r .free);
         number-count = refl;
         leads-count = refl;
         word-count = refl;
-        number = λ i p. below-as (number-opened h s i p) (cond-below (eqb i s) small (r .number i p));
+        number = λ i p. below-as (number-opened h o s i p) (cond-below (eqb i s) small (r .number i p));
         leads = λ i p.
             let struck = without-below (leads-at h i) s most-open (r .leads i p) in
-            below-as (leads-opened h s i p)
+            below-as (leads-opened h o s i p)
             (cond-below (eqb i s) (omega arith) (cond-below (open-at h i && has-past h i) (or-lt most-open (without (leads-at h i) s) (2 ^ s) struck (pow-lt q)) struck));
-        words = opened-fits (r .words) s;
+        words = opened-fits (r .words) s o;
+        port-masks = refl;
+        port = λ p k.
+            let struck = without-below (port-at h p) s most-open (r .port p k) in
+            below-as (port-opened h o s p k) (cond-below (eqb p o) (or-lt most-open (without (port-at h p) s) (2 ^ s) struck (pow-lt q)) struck);
       }
 
   ranges-stepped : (k : Kind) (c : ℕ) → Ranges (stepped-at h k s c)
-  unfolding number-at stepped-at
+  unfolding number-at port-at stepped-at
   ranges-stepped k c =
       record {
         next = r .next;
@@ -75,10 +81,12 @@ module _ {h : Held} (r : Ranges h) (s : ℕ) (q : s < most-open) where
             below-as (leads-stepped h s k c i p)
             (cond-below (open-at h i && touched h k s c i) (or-lt most-open (leads-at h i) (2 ^ s) (r .leads i p) (pow-lt q)) (r .leads i p));
         words = stepped-fits (r .words) s k c;
+        port-masks = r .port-masks;
+        port = r .port;
       }
 
   ranges-left : (t : ℕ → Bool) → Ranges (left-at h t s)
-  unfolding left-at
+  unfolding port-at left-at
   ranges-left t =
       record {
         next = r .next;
@@ -93,10 +101,12 @@ module _ {h : Held} (r : Ranges h) (s : ℕ) (q : s < most-open) where
             (cond-below (eqb i s) (omega arith)
             (without-below _ s most-open (cond-below (t i) (or-lt most-open (leads-at h i) _ (r .leads i p) handed) (r .leads i p))));
         words = left-fits (r .words) s q t;
+        port-masks = r .port-masks;
+        port = r .port;
       }
 
 pub ranges-moves : {h : Held} → Ranges h → Moves Ranges h
-ranges-moves r = record { opens = λ s q f small. ranges-opened r s q small; steps = λ k s c q o real. ranges-stepped r s q k c; leaves = λ t s q o only-open. ranges-left r s q t }
+ranges-moves r = record { opens = λ o s q f small. ranges-opened r s q o small; steps = λ k s c q o real. ranges-stepped r s q k c; leaves = λ t s q o only-open. ranges-left r s q t }
 
 -- every request, whatever its fields, keeps the ranges of every state, whatever it holds
 pub ranges-after : {h : Held} → Ranges h → (r : Request) → Ranges (after h r)
@@ -104,7 +114,7 @@ ranges-after {h} g r = kept-after Ranges (λ x f. ranges-moves f) h g r
 
 -- a fresh state is in range
 pub ranges-fresh : (first : ℕ) → first < 2 ^ 64 → Ranges (fresh-held first)
-unfolding fresh-held number-at leads-at
+unfolding fresh-held number-at leads-at port-at
 ranges-fresh first q =
     record {
       next = q;
@@ -115,6 +125,8 @@ ranges-fresh first q =
       number = λ i p. below-as (read-tab most-open (λ i. 0) i p) (omega arith);
       leads = λ i p. below-as (read-tab most-open (λ i. 0) i p) (omega arith);
       words = fresh-fits first;
+      port-masks = refl;
+      port = λ p q. below-as (read-tab port-count (λ p. 0) p q) (omega arith);
     }
 
 -- and so is every state that requests give from it
@@ -127,7 +139,7 @@ Issuable h = h .next ≤ numbers
 
 pub next-kept : (h : Held) → h .next ≤ numbers → (r : Request) → after h r .next ≤ numbers
 unfolding opened-at stepped-at left-at
-next-kept h g r = kept-after Issuable (λ x b. record { opens = λ s q f small. small; steps = λ k s c q o real. b; leaves = λ t s q o only-open. b }) h g r
+next-kept h g r = kept-after Issuable (λ x b. record { opens = λ p s q f small. small; steps = λ k s c q o real. b; leaves = λ t s q o only-open. b }) h g r
 
 -- ---- blank rows
 
@@ -164,21 +176,21 @@ cond-unmarked b x y i p q = chosen (λ (n : ℕ). bit n i ≡ false) b p q
 
 module _ {h : Held} (b : Blank h) (s : ℕ) (q : s < most-open) where
   -- each move keeps them blank
-  blank-opened : Blank (opened-at h s)
-  blank-opened =
+  blank-opened : (r : ℕ) → Blank (opened-at h r s)
+  blank-opened r =
       record {
         row = λ i p c.
-            let z = both-false (open-at h i) (eqb i s) (sym (opened-open-at h s i) ∙ c) in
+            let z = both-false (open-at h i) (eqb i s) (sym (opened-open-at h r s i) ∙ c) in
             let g = b .row i p (z .0) in
             record {
-              number = number-opened h s i p ∙ cond-out _ _ (z .1) ∙ g .number;
+              number = number-opened h r s i p ∙ cond-out _ _ (z .1) ∙ g .number;
               leads =
-                  leads-opened h s i p
+                  leads-opened h r s i p
                   ∙ cond-zero (eqb i s) refl (cond-out _ _ (ap (λ (b : Bool). b && has-past h i) (z .0)) ∙ without-zero (leads-at h i) s (g .leads));
-              word = λ o k. row-opened h s i o p k ∙ cond-zero (eqb i s) refl (g .word o k);
+              word = λ o k. row-opened h s i o p k r ∙ cond-zero (eqb i s) refl (g .word o k);
               struck = λ x k.
                   let lacks = without-unmarked (leads-at h x) s i (g .struck x k) in
-                  ap (λ (n : ℕ). bit n i) (leads-opened h s x k)
+                  ap (λ (n : ℕ). bit n i) (leads-opened h r s x k)
                   ∙ cond-unmarked (eqb x s) 0 _ i (bit-zero i)
                   (cond-unmarked (open-at h x && has-past h x) _ _ i (or-unmarked (without (leads-at h x) s) (2 ^ s) i lacks (bit-pow s i ∙ z .1)) lacks);
             };
@@ -250,7 +262,7 @@ module _ {h : Held} (b : Blank h) (s : ℕ) (q : s < most-open) where
 pub blank-moves : {h : Held} → Blank h → Moves Blank h
 blank-moves b =
     record {
-      opens = λ s q f small. blank-opened b s q;
+      opens = λ p s q f small. blank-opened b s q p;
       steps = λ k s c q o real. blank-stepped b s q k c o real;
       leaves = λ t s q o only-open. blank-left b s q t only-open;
     }
@@ -309,17 +321,18 @@ lowest-passing p n few = go (only p (upto n)) refl
 
 -- a granted open goes into the lowest free slot, and changes the state as an open there does
 pub lowest-slot : (h : Held) (r : Request) → code-of (facts h) r ≡ 0 → want (r .kind) ≡ an-open
-    → (s : ℕ) × LowestOf (bit (h .free)) most-open s × (after h r ≡ opened-at h s)
+    → (s : ℕ) × LowestOf (bit (h .free)) most-open s × (after h r ≡ opened-at h (r .job) s)
 unfolding code-of tests facts open-slots open-at free-slot moved after
 lowest-slot h r z e =
     let w : first-of (tests (facts h) an-open (r .job) (r .cell)) ≡ 0 = subst (λ (x : Want). first-of (tests (facts h) x (r .job) (r .cell)) ≡ 0) e (passed (not (eqb (r .byte1) 0)) 0 _ z .1) in
-    let few = passed (leb most-open (length (open-slots h))) 4 0 (passed (leb numbers (h .next)) 5 _ w .1) .0 in
+    let crowded : ℕ = cond (leb most-of-port (facts h .crowd (r .job))) 9 0 in
+    let few = passed (leb most-open (length (open-slots h))) 4 crowded (passed (leb port-count (r .job)) 7 _ (passed (leb numbers (h .next)) 5 _ w .1) .1) .0 in
     let f = lowest-passing (bit (h .free)) most-open (below-bound most-open (length (open-slots h)) few) in (
       f .0,
       f .1,
       ap (λ (n : ℕ). cond (eqb n 0) (moved h (want (r .kind)) (r .job) (r .cell)) h) z
           ∙ ap (λ (x : Want). moved h x (r .job) (r .cell)) e
-          ∙ ap (λ (l : List ℕ). with-slot (first-in l) (λ s. opened-at h s) h) (f .2 .1),
+          ∙ ap (λ (l : List ℕ). with-slot (first-in l) (λ s. opened-at h (r .job) s) h) (f .2 .1),
     )
 
 -- a refusal leaves the state as it was

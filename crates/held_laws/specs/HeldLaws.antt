@@ -1,5 +1,5 @@
 -- What each move does to what is read off a state, slot by slot: whether a slot is open, its leads, its own and its past after an open, a step and the
--- leaving of a slot, from those before. For slots below 32 and cells below 256. Numbers and words are in HeldMoves.
+-- leaving of a slot, and its port after an open, from those before. For slots below 32 and cells below 256. Numbers and words are in HeldMoves.
 -- In order: marks of numbers chosen by a test; where the words of a set stand; an open; a step; a slot is left; the open slots.
 -- Assumes nothing.
 use mathlib.Core.Path.{_≡_, refl, sym, ap, ap₂, _∙_, subst}
@@ -15,9 +15,9 @@ use Rattle.graph.specs.Lists.{_∈_, here, later, only-keeps, only-from, only-s
 use Rattle.marks.specs.Marks.{bit, mask-of, without, upto}
 use Rattle.marks.specs.MarkLaws.{upto-has, upto-from, upto-once, bit-zero, bit-pow, bit-or, bit-and, bit-without, bit-mask}
 use Rattle.history.specs.Events.{Kind, read, write, add}
-use Rattle.history.specs.Replies.{most-open, cells}
-use Rattle.held.specs.Held.{Held, word-marks, set-words, row-words, past-place, leads-at, word-at, open-at, open-slots, Aspect, as-used, as-altered, aspects, shows, set-place, marks-word, cell-at, own-at, past-at, meets, touched, has-past, opened-at, stepped-at, left-at}
-use Rattle.held_laws.specs.HeldMoves.{own-word, leads-opened, leads-stepped, leads-left, row-opened, row-stepped, row-left}
+use Rattle.history.specs.Replies.{most-open, cells, port-count}
+use Rattle.held.specs.Held.{Held, word-marks, set-words, row-words, past-place, leads-at, port-at, word-at, open-at, open-slots, Aspect, as-used, as-altered, aspects, shows, set-place, marks-word, cell-at, own-at, past-at, meets, touched, has-past, opened-at, stepped-at, left-at}
+use Rattle.held_laws.specs.HeldMoves.{own-word, leads-opened, port-opened, leads-stepped, leads-left, row-opened, row-stepped, row-left}
 
 -- ---- marks of numbers that are chosen by a test
 
@@ -76,37 +76,45 @@ marks-test k s c w = some-test (λ a. and-test (own-test (shows k a)) (eq-test w
 
 -- ---- an open
 
-module _ (h : Held) (s i : ℕ) where
+module _ (h : Held) (r s i : ℕ) where
   -- the slot is open now, any other as it was
-  pub opened-open-at : open-at (opened-at h s) i ≡ open-at h i || eqb i s
+  pub opened-open-at : open-at (opened-at h r s) i ≡ open-at h i || eqb i s
   unfolding open-at opened-at
   opened-open-at = ap not (bit-without (h .free) s i) ∙ not-and-not (bit (h .free) i) (eqb i s)
 
   module _ (p : i < most-open) where
     -- the slot leads nowhere, and the open slots that have a past lead to it
-    pub opened-leads-at : (x : ℕ) → bit (leads-at (opened-at h s) i) x
+    pub opened-leads-at : (x : ℕ) → bit (leads-at (opened-at h r s) i) x
         ≡ not (eqb i s) && ((not (eqb x s) && bit (leads-at h i) x) || (eqb x s && (open-at h i && has-past h i)))
     opened-leads-at x =
         let b = open-at h i && has-past h i in
         let n = without (leads-at h i) s in
-        ap (λ (n : ℕ). bit n x) (leads-opened h s i p)
+        ap (λ (n : ℕ). bit n x) (leads-opened h r s i p)
         ∙ blank-bit (eqb i s) (cond b (bitOr n (2 ^ s)) n) x
         ∙ ap (λ (a : Bool). not (eqb i s) && a) (more-bit b n (2 ^ s) x
         ∙ ap₂ _||_ (without-bit (leads-at h i) s x) (ap (λ (a : Bool). b && a) (bit-pow s x) ∙ and-comm b (eqb x s)))
 
-    cell-opened : (o c : ℕ) → o + c / word-marks < row-words → cell-at (opened-at h s) i o c ≡ not (eqb i s) && cell-at h i o c
+    cell-opened : (o c : ℕ) → o + c / word-marks < row-words → cell-at (opened-at h r s) i o c ≡ not (eqb i s) && cell-at h i o c
     unfolding cell-at
     cell-opened o c q =
-        ap (λ (n : ℕ). bit n (c % word-marks)) (row-opened h s i (o + c / word-marks) p q)
+        ap (λ (n : ℕ). bit n (c % word-marks)) (row-opened h s i (o + c / word-marks) p q r)
         ∙ blank-bit (eqb i s) (word-at h i (o + c / word-marks)) (c % word-marks)
 
     -- the slot's own is blank, any other as it was
-    pub opened-own-at : (a : Aspect) (c : ℕ) → c < cells → own-at (opened-at h s) i a c ≡ not (eqb i s) && own-at h i a c
+    pub opened-own-at : (a : Aspect) (c : ℕ) → c < cells → own-at (opened-at h r s) i a c ≡ not (eqb i s) && own-at h i a c
     opened-own-at a c real = cell-opened (set-place a) c (own-inside a c real)
 
     -- and so with its past
-    pub opened-past-at : (a : Aspect) (c : ℕ) → c < cells → past-at (opened-at h s) i a c ≡ not (eqb i s) && past-at h i a c
+    pub opened-past-at : (a : Aspect) (c : ℕ) → c < cells → past-at (opened-at h r s) i a c ≡ not (eqb i s) && past-at h i a c
     opened-past-at a c real = cell-opened (past-place + set-place a) c (past-inside a c real)
+
+  -- the slot is under the port of the open alone, any other where it was
+  pub opened-port-at : (p : ℕ) → p < port-count → bit (port-at (opened-at h r s) p) i ≡ (not (eqb i s) && bit (port-at h p) i) || (eqb i s && eqb p r)
+  opened-port-at p q =
+      let n = without (port-at h p) s in
+      ap (λ (n : ℕ). bit n i) (port-opened h r s p q)
+      ∙ more-bit (eqb p r) n (2 ^ s) i
+      ∙ ap₂ _||_ (without-bit (port-at h p) s i) (ap (λ (a : Bool). eqb p r && a) (bit-pow s i) ∙ and-comm (eqb p r) (eqb i s))
 
 -- ---- a step
 
@@ -267,14 +275,14 @@ module _ (h : Held) where
   slots-full f = ap length (only-all (open-at h) (upto most-open) (λ i m. f i (upto-from most-open m)))
 
   -- an open adds its slot
-  pub slots-opened : (s : ℕ) → (T (open-at h s) → ⊥) → open-slots h ≡ strike s (open-slots (opened-at h s))
+  pub slots-opened : (r s : ℕ) → (T (open-at h s) → ⊥) → open-slots h ≡ strike s (open-slots (opened-at h r s))
   unfolding open-slots
-  slots-opened s shut =
-      only-strike (upto most-open) (open-at h) (open-at (opened-at h s)) s (λ i m.
+  slots-opened r s shut =
+      only-strike (upto most-open) (open-at h) (open-at (opened-at h r s)) s (λ i m.
       same-test (own-test (open-at h i)) (and-test (or-test (own-test (open-at h i)) (eq-test i s)) (not-test (eq-test i s)))
       (λ o. (inl o, λ e. shut (subst (λ (x : ℕ). T (open-at h x)) e o)))
-      (λ r. ⊎-elim (λ o. o) (λ e. absurd (r .1 e)) (r .0))
-      ∙ ap (λ (b : Bool). b && not (eqb i s)) (sym (opened-open-at h s i)))
+      (λ z. ⊎-elim (λ o. o) (λ e. absurd (z .1 e)) (z .0))
+      ∙ ap (λ (b : Bool). b && not (eqb i s)) (sym (opened-open-at h r s i)))
 
   -- a step none
   pub slots-stepped : (k : Kind) (s c : ℕ) → open-slots (stepped-at h k s c) ≡ open-slots h

@@ -17,9 +17,9 @@ use Rattle.graph.specs.Lists.{_∈_, here, only, only-from}
 use Rattle.marks.specs.Marks.{bit, mask-of, without, tab, upto}
 use Rattle.marks.specs.MarkLaws.{getD-tab, tab-same, upto-from}
 use Rattle.history.specs.Events.{Kind, read, write, add}
-use Rattle.history.specs.Replies.{cells, most-open, numbers, Request, Want, an-open, a-step, an-end, an-abandon, a-publish, nothing, want, first-of, tests, code-of}
+use Rattle.history.specs.Replies.{cells, most-open, numbers, port-count, Request, Want, an-open, a-step, an-end, an-abandon, a-publish, nothing, want, first-of, tests, code-of}
 use Rattle.history_laws.specs.Granted.{below-bound, passed}
-use Rattle.held.specs.Held.{Held, word-marks, row-words, past-place, all-words, fresh-held, number-at, leads-at, word-at, open-at, open-slots, Aspect, as-used, as-altered, set-place, marks-word, touched, first-in, slot-of, facts, has-past, opened-at, stepped-at, left-at, ended-at, abandoned-at, with-slot, free-slot, moved, after, after-all}
+use Rattle.held.specs.Held.{Held, word-marks, row-words, past-place, all-words, fresh-held, number-at, leads-at, port-at, word-at, open-at, open-slots, Aspect, as-used, as-altered, set-place, marks-word, touched, first-in, slot-of, facts, has-past, opened-at, stepped-at, left-at, ended-at, abandoned-at, with-slot, free-slot, moved, after, after-all}
 
 -- ---- what a move leaves
 
@@ -35,21 +35,26 @@ own-word s a c = s * row-words + (set-place a + c / word-marks)
 pub read-tab : (n : ℕ) (f : ℕ → ℕ) (i : ℕ) → i < n → getD (tab n f) i 0 ≡ f i
 read-tab n f i q = getD-tab n f i 0 q
 
-module _ (h : Held) (s : ℕ) where
-  -- number, leads and words after an open, a step, a leave. A step leaves the numbers as they are
-  pub number-opened : (i : ℕ) → i < most-open → number-at (opened-at h s) i ≡ cond (eqb i s) (h .next) (number-at h i)
+-- number, leads and words after an open, a step, a leave; of an open the ports' masks too, which a step and a leave keep. A step keeps the numbers
+module _ (h : Held) (p s : ℕ) where
+  pub number-opened : (i : ℕ) → i < most-open → number-at (opened-at h p s) i ≡ cond (eqb i s) (h .next) (number-at h i)
   unfolding number-at opened-at
   number-opened = read-tab most-open _
 
   pub leads-opened : (i : ℕ) → i < most-open
-      → leads-at (opened-at h s) i ≡ cond (eqb i s) 0 (cond (open-at h i && has-past h i) (bitOr (without (leads-at h i) s) (2 ^ s)) (without (leads-at h i) s))
+      → leads-at (opened-at h p s) i ≡ cond (eqb i s) 0 (cond (open-at h i && has-past h i) (bitOr (without (leads-at h i) s) (2 ^ s)) (without (leads-at h i) s))
   unfolding leads-at opened-at
   leads-opened = read-tab most-open _
 
-  pub word-opened : (w : ℕ) → w < all-words → nth-word (opened-at h s) w ≡ cond (eqb (w / row-words) s) 0 (nth-word h w)
+  pub word-opened : (w : ℕ) → w < all-words → nth-word (opened-at h p s) w ≡ cond (eqb (w / row-words) s) 0 (nth-word h w)
   unfolding opened-at
   word-opened = read-tab all-words _
 
+  pub port-opened : (q : ℕ) → q < port-count → port-at (opened-at h p s) q ≡ cond (eqb q p) (bitOr (without (port-at h q) s) (2 ^ s)) (without (port-at h q) s)
+  unfolding port-at opened-at
+  port-opened = read-tab port-count _
+
+module _ (h : Held) (s : ℕ) where
   pub leads-stepped : (k : Kind) (c i : ℕ) → i < most-open
       → leads-at (stepped-at h k s c) i ≡ cond (open-at h i && touched h k s c i) (bitOr (leads-at h i) (2 ^ s)) (leads-at h i)
   unfolding leads-at stepped-at
@@ -127,9 +132,9 @@ module _ (h : Held) (s i o : ℕ) (p : i < most-open) (q : o < row-words) where
   its-place : (i * row-words + o) % row-words ≡ o
   its-place = omega arith
 
-  pub row-opened : word-at (opened-at h s) i o ≡ cond (eqb i s) 0 (word-at h i o)
+  pub row-opened : (r : ℕ) → word-at (opened-at h r s) i o ≡ cond (eqb i s) 0 (word-at h i o)
   unfolding word-at
-  row-opened = word-opened h s (i * row-words + o) (omega arith) ∙ ap (λ (r : ℕ). cond (eqb r s) 0 (nth-word h (i * row-words + o))) its-row
+  row-opened r = word-opened h r s (i * row-words + o) (omega arith) ∙ ap (λ (r : ℕ). cond (eqb r s) 0 (nth-word h (i * row-words + o))) its-row
 
   pub row-stepped : (k : Kind) (c : ℕ) → word-at (stepped-at h k s c) i o
       ≡ cond (marks-word k s c (i * row-words + o)) (bitOr (word-at h i o) (2 ^ (c % word-marks))) (word-at h i o)
@@ -153,8 +158,8 @@ unfolding fresh-held
 fresh-fits first = record { word = λ w p. rw (read-tab all-words (λ w. 0) w p) (pow-pos word-marks) }
 
 module _ {h : Held} (f : Fits h) (s : ℕ) where
-  pub opened-fits : Fits (opened-at h s)
-  opened-fits = record { word = λ w p. rw (word-opened h s w p) (cond-below (eqb (w / row-words) s) (pow-pos word-marks) (f .word w p)) }
+  pub opened-fits : (r : ℕ) → Fits (opened-at h r s)
+  opened-fits r = record { word = λ w p. rw (word-opened h r s w p) (cond-below (eqb (w / row-words) s) (pow-pos word-marks) (f .word w p)) }
 
   pub stepped-fits : (k : Kind) (c : ℕ) → Fits (stepped-at h k s c)
   stepped-fits k c =
@@ -180,7 +185,7 @@ module _ {h : Held} (f : Fits h) (s : ℕ) where
 
 -- each of the three keeps P. Who takes over from a slot that is left is open
 pub record Moves (P : Held → Type 0) (h : Held) : Type 0 where
-  pub opens : (s : ℕ) → s < most-open → T (bit (h .free) s) → h .next < numbers → P (opened-at h s)
+  pub opens : (p s : ℕ) → s < most-open → T (bit (h .free) s) → h .next < numbers → P (opened-at h p s)
   pub steps : (k : Kind) (s c : ℕ) → s < most-open → T (open-at h s) → c < cells → P (stepped-at h k s c)
   pub leaves : (t : ℕ → Bool) (s : ℕ) → s < most-open → T (open-at h s) → ((i : ℕ) → T (t i) → T (open-at h i)) → P (left-at h t s)
 
@@ -203,10 +208,10 @@ module _ (P : Held → Type 0) (m : (h : Held) → P h → Moves P h) (h : Held)
   pub kept-moved : (w : Want) (j c : ℕ) → first-of (tests (facts h) w j c) ≡ 0 → P (moved h w j c)
   unfolding moved tests facts free-slot ended-at abandoned-at
   kept-moved an-open j c z =
-      first-cases (λ o. P (with-slot o (λ s. opened-at h s) h)) (only (bit (h .free)) (upto most-open)) p
+      first-cases (λ o. P (with-slot o (λ s. opened-at h j s) h)) (only (bit (h .free)) (upto most-open)) p
       (λ s n.
       let r = only-from (bit (h .free)) (upto most-open) n in
-      m h p .opens s (upto-from most-open (r .0)) (r .1) (below-bound numbers (h .next) (passed (leb numbers (h .next)) 5 _ z .0)))
+      m h p .opens j s (upto-from most-open (r .0)) (r .1) (below-bound numbers (h .next) (passed (leb numbers (h .next)) 5 _ z .0)))
   kept-moved (a-step k) j c z = kept-at j (λ s. stepped-at h k s c) (λ s q o. m h p .steps k s c q o (below-bound cells c (passed (leb cells c) 1 _ z .0)))
   kept-moved an-end j c z =
       kept-at j (λ s. left-at h _ s) (λ s q o. m h p .leaves _ s q o (λ i t. T-and-left (open-at h i) (not (eqb i s) && bit (leads-at h i) s) t))

@@ -1,20 +1,21 @@
 -- The rows are the bounded memory seen through the slots (`Seen`): where the memory has a job, the rows have the open slot that holds its number, and where
--- the memory has a read, write or add, the rows have its cell in the set of each aspect that it shows (`shown`).
--- In order: what is meant; what is shown of footprints; the first that passes a test, and the slot of a number; a step's leads, and walks over slots and over jobs; the facts
--- agree (`seen-agree`); the fresh state (`seen-start`); a step, the leaving of a slot (an end, an abandon), an open; a request (`seen-after`).
+-- the memory has a read, write or add, the rows have its cell in the set of each aspect that it shows (`shown`). The slot is under the port of its job alone.
+-- In order: what is meant; what is shown of footprints; the first that passes a test, and the slot of a number; a step's leads, and walks over slots and over jobs; as many
+-- slots of a port as jobs, and the facts agree (`seen-agree`); the fresh state (`seen-start`); a step, the leaving of a slot (an end, an abandon), an open; a request (`seen-after`).
 -- Assumes nothing.
 use mathlib.Core.Path.{_≡_, refl, sym, ap, ap₂, _∙_, subst, subst₂}
 use mathlib.Core.Logic.{_⊎_, inl, inr, ⊎-elim}
 use mathlib.Core.Bool.{Bool, true, false, not, _&&_, _||_, cond, and-comm, and-false, or-false}
 use mathlib.Core.Option.{Option, some}
 use mathlib.Core.List.{List, [], _∷_, _++_, List·Memᴰ·not-nil, List·Memᴰ·append-cases, Memᴰ·append-left, Memᴰ·append-right, List·Memᴰ·cases-cons, List·Memᴰ·eq-of-singleton, Memᴰ·cast}
-use Prim.Native.Nat.{ℕ, zero, suc, _+_, _-_, _*_, _/_, _%_, _^_, _≤_, _<_}
+use Prim.Native.Nat.{ℕ, zero, suc, _+_, _-_, _*_, _/_, _%_, _^_, _≤_, _<_, zero-le, suc-le-suc}
+use native.Mathlib.Nat.{le-trans}
 use native.Mathlib.Omega.{arith}
 use lib.Dec.{T, lit<, leb, eqb, T-not, not-T}
 use lib.ListN.{length, length-append}
 use lib.Pow.{pow-pos}
 use Rattle.graph.specs.Decide.{Decides, and-test, or-test, not-test, eq-test, own-test, read-as, same-test, is-true, true-is, false-is, test-true, test-false, T-or-right, by-test, some-of, some-test, some-same, answer}
-use Rattle.graph.specs.Lists.{_∈_, here, only, only-from, only-keeps, before-from-only, Once, once-if, strike, strike-keeps, strike-from, strike-once}
+use Rattle.graph.specs.Lists.{_∈_, here, later, only, only-from, only-keeps, only-same, only-both, before-from-only, Once, none, more, once-if, once-only, strike, strike-keeps, strike-from, strike-shorter, strike-once}
 use Rattle.graph.specs.Walk.{Via, one, step}
 use Rattle.graph.specs.Reach.{reach, reach-test}
 use Rattle.marks.specs.Marks.{bit, upto}
@@ -22,16 +23,16 @@ use Rattle.marks.specs.MarkLaws.{getD-tab, tab-member, upto-has, upto-from, bit
 use Rattle.marks.specs.Words.{marked, empty}
 use Rattle.marks.specs.WordLaws.{Fit, empty-test}
 use Rattle.history.specs.Events.{Kind, read, write, add, kinds, kinds-clash, alters, does, opening, ending, Event, History, has, opened, ended, abandoned, kept, open-now}
-use Rattle.history.specs.Replies.{cells, most-open, numbers, Request, Want, an-open, a-step, an-end, an-abandon, a-publish, nothing, want, first-of, tests, code-of, event-of, granted-of}
-use Rattle.history.specs.Memory.{Footprint, Memory, fresh, touches, same-deed, step-in, blank, fold, right, open-in, move, move-all, below, held}
+use Rattle.history.specs.Replies.{cells, most-open, numbers, port-count, Request, Want, an-open, a-step, an-end, an-abandon, a-publish, nothing, want, first-of, tests, code-of, event-of, granted-of, entered, ports-after, Book}
+use Rattle.history.specs.Memory.{Footprint, Memory, fresh, touches, same-deed, step-in, blank, fold, right, open-in, move, move-all, below, held, with-port, held-after}
 use Rattle.history_laws.specs.MemoryLaws.{every-kind, kind-test}
 use Rattle.history_laws.specs.TurnLaws.{has-test, open-opened, orderly}
 use Rattle.history_laws.specs.TimeLaws.{meets-does, opening-own, ending-own, ending-leads, opening-leads, past-ended}
 use Rattle.history_laws.specs.Granted.{below-bound, passed}
 use Rattle.history_laws.specs.Exact.{Agree, agree-code, Beside, below-has}
-use Rattle.held.specs.Held.{Held, fresh-held, word-marks, set-words, row-words, past-place, number-at, leads-at, word-at, open-at, open-slots, Aspect, as-used, as-altered, aspects, shows, clash-shows, set-place, set-at, cell-at, own-at, past-at, first-in, is-some, at-slot, slot-of, meets, touched, chain-back, altered, facts, has-past, opened-at, stepped-at, left-at, takes-over, ended-at, abandoned-at, with-slot, free-slot, moved, after}
+use Rattle.held.specs.Held.{Held, fresh-held, word-marks, set-words, row-words, past-place, number-at, leads-at, port-at, word-at, open-at, open-slots, Aspect, as-used, as-altered, aspects, shows, clash-shows, set-place, set-at, cell-at, own-at, past-at, first-in, is-some, at-slot, slot-of, meets, touched, chain-back, altered, facts, has-past, opened-at, stepped-at, left-at, takes-over, ended-at, abandoned-at, with-slot, free-slot, moved, after}
 use Rattle.held_laws.specs.HeldMoves.{number-opened, number-left, Fits, fresh-fits, opened-fits, stepped-fits, left-fits}
-use Rattle.held_laws.specs.HeldLaws.{set-end, every-aspect, slot-from, slot-if, slots-once, slots-full, slots-opened, slots-stepped, slots-left, opened-open-at, opened-leads-at, opened-own-at, opened-past-at, stepped-leads-at, stepped-own-at, stepped-past-at, left-leads-at, left-own-at, left-past-at}
+use Rattle.held_laws.specs.HeldLaws.{set-end, every-aspect, slot-from, slot-if, slots-once, slots-full, slots-opened, slots-stepped, slots-left, opened-open-at, opened-leads-at, opened-port-at, opened-own-at, opened-past-at, stepped-leads-at, stepped-own-at, stepped-past-at, left-leads-at, left-own-at, left-past-at}
 
 -- ---- what is meant
 
@@ -51,6 +52,8 @@ pub record Seen (st : Held) (m : Memory) : Type 0 where
   pub own : (i : ℕ) → i ∈ open-slots st → (a : Aspect) (c : ℕ) → c < cells → own-at st i a c ≡ shown (m .own (number-at st i)) a c
   pub past : (i : ℕ) → i ∈ open-slots st → (a : Aspect) (c : ℕ) → c < cells → past-at st i a c ≡ shown (m .past (number-at st i)) a c
   pub leads : (i x : ℕ) → i ∈ open-slots st → x ∈ open-slots st → bit (leads-at st i) x ≡ m .leads (number-at st i) (number-at st x)
+  -- an open slot is under the port of its job, and under no other
+  pub port : (i p : ℕ) → i ∈ open-slots st → p < port-count → bit (port-at st p) i ≡ eqb (m .port (number-at st i)) p
   -- no word has a mark that is no cell
   pub fits : Fits st
 
@@ -222,6 +225,29 @@ module _ {st : Held} {m : Memory} (seen : Seen st m) where
 
 -- ---- the facts agree
 
+-- members that are numbered apart, into a list: no more of them than it has, and where they are as many, as many pass a test as there
+module _ (f : ℕ → ℕ) where
+  numbered-le : {l k : List ℕ} → Once l → ((i x : ℕ) → i ∈ l → x ∈ l → f i ≡ f x → i ≡ x) → ((i : ℕ) → i ∈ l → f i ∈ k) → length l ≤ length k
+  numbered-le none apart into = zero-le
+  numbered-le {l = x ∷ l} {k = k} (more n o) apart into =
+      le-trans
+      (suc-le-suc (numbered-le o (λ i y a b. apart i y (later a) (later b)) (λ i a. strike-keeps (into i (later a)) (λ e. n (Memᴰ·cast (apart x i here (later a) (sym e)) a)))))
+      (strike-shorter (into x here))
+
+  numbered-alike : {l k : List ℕ} → Once l → ((i x : ℕ) → i ∈ l → x ∈ l → f i ≡ f x → i ≡ x) → ((i : ℕ) → i ∈ l → f i ∈ k) → length l ≡ length k
+      → (q : ℕ → Bool) → length (only (λ i. q (f i)) l) ≡ length (only q k)
+  numbered-alike {l} {k} once apart into same q =
+      let yes-le = part q in
+      let no-le = part (λ j. not (q j)) in
+      let all-l = only-both (λ i. q (f i)) l in
+      let all-k = only-both q k in
+      omega arith
+    where
+      part : (t : ℕ → Bool) → length (only (λ i. t (f i)) l) ≤ length (only t k)
+      part t =
+          numbered-le (once-only (λ i. t (f i)) once) (λ i x a b. apart i x (only-from (λ i. t (f i)) l a .0) (only-from (λ i. t (f i)) l b .0))
+          (λ i a. let r = only-from (λ i. t (f i)) l a in only-keeps t (into i (r .0)) (r .1))
+
 below-from : (c n : ℕ) → c ∈ below n → c < n
 below-from c zero h = absurd (List·Memᴰ·not-nil h)
 below-from c (suc n) h = ⊎-elim (λ e. let q : c ≡ n = e in omega arith) (λ r. let q = below-from c n r in omega arith) (List·Memᴰ·cases-cons h)
@@ -301,7 +327,7 @@ module _ {st : Held} {m : Memory} (seen : Seen st m) where
   -- what the codes ask of the rows is what they ask of the memory
   pub seen-agree : Agree (facts st) (held right m)
   unfolding facts
-  seen-agree = record { is-open = opens-same; has-written = written-same; count = count-same; next = next-same; closes = closes-same }
+  seen-agree = record { is-open = opens-same; has-written = written-same; count = count-same; crowd = crowd-same; next = next-same; closes = closes-same }
     where
       job-of : (j : ℕ) → T (held right m .is-open j) → SlotOf st j
       job-of j o = unfold held in job-slot j (has-test (m .jobs) j .holds o)
@@ -318,6 +344,13 @@ module _ {st : Held} {m : Memory} (seen : Seen st m) where
 
       count-same : length (open-slots st) ≡ held right m .count
       count-same = unfold held in seen .count
+
+      -- the slots under a port are as many as the jobs of the port
+      crowd-same : (p : ℕ) → p < port-count → length (only (bit (port-at st p)) (open-slots st)) ≡ held right m .crowd p
+      crowd-same p q =
+          unfold held in
+          ap length (only-same (bit (port-at st p)) (λ i. eqb (m .port (number-at st i)) p) (open-slots st) (λ i o. seen .port i p o q))
+          ∙ numbered-alike (number-at st) (slots-once st) (seen .apart) (seen .a-job) (seen .count) (λ j. eqb (m .port j) p)
 
       next-same : st .next ≡ held right m .next
       next-same = unfold held in seen .next
@@ -350,6 +383,7 @@ seen-start first =
       own = λ i o a c real. absurd (shut i o);
       past = λ i o a c real. absurd (shut i o);
       leads = λ i x o p. absurd (shut i o);
+      port = λ i p o q. absurd (shut i o);
       fits = fresh-fits first;
     }
   where
@@ -368,7 +402,7 @@ module _ {st : Held} {m : Memory} (seen : Seen st m) (k : Kind) (s c : ℕ) (p :
 
   -- a granted step keeps the rows and the memory alike
   pub seen-step : Seen (stepped-at st k s c) (step-in m (does k) (number-at st s) c)
-  unfolding stepped-at number-at step-in
+  unfolding stepped-at number-at port-at step-in
   seen-step =
       record {
         next = seen .next;
@@ -383,6 +417,7 @@ module _ {st : Held} {m : Memory} (seen : Seen st m) (k : Kind) (s c : ℕ) (p :
         leads = λ i x o q. stepped-leads-at st k s c i (slot-from st (was-open o) .0) x
             ∙ ap (λ (b : Bool). bit (leads-at st i) x || (eqb x s && (b && touched st k s c i))) (is-true {b = open-at st i} (slot-from st (was-open o) .1))
             ∙ lead-same seen k s c p real i x (was-open o) (was-open q);
+        port = λ i p o q. seen .port i p (was-open o) q;
         fits = stepped-fits (seen .fits) s k c;
       }
 
@@ -397,6 +432,7 @@ over u m j =
       own = m .own;
       past = λ i d c. m .past i d c || (u i && (m .own j d c || m .past j d c));
       leads = λ i x. m .leads i x || (u i && m .leads j x);
+      port = m .port;
     }
 
 shown-over : (u : ℕ → Bool) (m : Memory) (j n : ℕ) (a : Aspect) (c : ℕ)
@@ -436,7 +472,7 @@ module _ {st : Held} {m : Memory} (seen : Seen st m) (once : Once (m .jobs)) (s 
 
     -- a slot is left as its job is: struck out, once the jobs that pass have taken over
     seen-left : Seen (left-at st t s) (blank (over u m (number-at st s)) (number-at st s))
-    unfolding blank left-at
+    unfolding blank left-at port-at
     seen-left =
         let j = number-at st s in
         record {
@@ -470,6 +506,7 @@ module _ {st : Held} {m : Memory} (seen : Seen st m) (once : Once (m .jobs)) (s 
               (left-leads-at st t s i (slot-from st (a .0) .0) x (slot-from st (b .0) .0))
               (blanked (λ n. m .leads (number-at st i) n || (u (number-at st i) && m .leads j n)) q refl
               (ap₂ (λ (a b : Bool). a || b) (seen .leads i x (a .0) (b .0)) (ap₂ (λ (a b : Bool). a && b) (same i (a .0) (a .1)) (passed-on (b .0)))));
+          port = λ i n o q. seen .port i n (other-slot o .0) q ∙ ap (λ (j : ℕ). eqb (m .port j) n) (sym (same-number o));
           fits = left-fits (seen .fits) s (slot-from st p .0) t;
         }
       where
@@ -497,7 +534,7 @@ module _ {st : Held} {m : Memory} (seen : Seen st m) (once : Once (m .jobs)) (s 
     where
       none-over : (j : ℕ) → over (λ n. false) m j ≡ m
       none-over j =
-          λ d. record { next = m .next; jobs = m .jobs; own = m .own; past = λ i e c. or-false (m .past i e c) d; leads = λ i x. or-false (m .leads i x) d }
+          λ d. record { next = m .next; jobs = m .jobs; own = m .own; past = λ i e c. or-false (m .past i e c) d; leads = λ i x. or-false (m .leads i x) d; port = m .port }
 
 -- the mark of a job's end is no read, write or add and no lead: the rows are the memory with it too
 seen-marked : {st : Held} {m : Memory} → Seen st m → (j : ℕ) → Seen st (step-in m ending j 0)
@@ -514,6 +551,7 @@ seen-marked {st} {m} seen j =
           seen .own i o a c real ∙ sym (shown-same (step-in m ending j 0 .own n) (m .own n) a c (λ k. ending-own m j n k c));
       past = seen .past;
       leads = λ i x o p. seen .leads i x o p ∙ sym (ending-leads m j (number-at st i) (number-at st x));
+      port = seen .port;
       fits = seen .fits;
     }
 
@@ -541,76 +579,76 @@ opened-in m = step-in (open-in m (m .next)) opening (m .next) 0
 abbrev pub OpenLeads : Memory → Type 0
 OpenLeads m = (i x : ℕ) → opened-in m .leads i x ≡ m .leads i x || (eqb x (m .next) && any-past m i)
 
-module _ {first : ℕ} {h : History} {m : Memory} (b : Beside first h m) where
+module _ {b : Book} {h : History} {m : Memory} (t : Beside b h m) where
   -- the number that is next was never issued
   unissued : m .next ∈ open-now h → ⊥
-  unissued o = let q = b .sound .issued (m .next) (open-opened h o) in let e = b .next in omega arith
+  unissued o = let q = t .sound .issued (m .next) (open-opened h o) in let e = t .next in omega arith
 
   next-unused : Unused m (m .next)
   next-unused =
       record {
-        not-open = λ o. unissued (subst (λ (l : List ℕ). m .next ∈ l) (b .tells .jobs) o);
-        no-own = λ k c. test-false (b .tells .own (m .next) (does k) c) (λ r. unissued (r .is-open));
-        no-past = λ k c. test-false (b .tells .past (m .next) (does k) c) (λ r. unissued (r .is-open));
-        no-leads = λ x. test-false (b .tells .leads (m .next) x) (λ r. unissued (r .from-open));
-        not-led = λ i. test-false (b .tells .leads i (m .next)) (λ r. unissued (r .to-open));
+        not-open = λ o. unissued (subst (λ (l : List ℕ). m .next ∈ l) (t .tells .jobs) o);
+        no-own = λ k c. test-false (t .tells .own (m .next) (does k) c) (λ r. unissued (r .is-open));
+        no-past = λ k c. test-false (t .tells .past (m .next) (does k) c) (λ r. unissued (r .is-open));
+        no-leads = λ x. test-false (t .tells .leads (m .next) x) (λ r. unissued (r .from-open));
+        not-led = λ i. test-false (t .tells .leads i (m .next)) (λ r. unissued (r .to-open));
       }
 
   -- an open makes those jobs lead to the new one that have a read, write or add in their past
   next-led : OpenLeads m
   next-led i x =
-      let o = orderly h (b .sound .turns) in
-      opening-leads o (b .tells) (m .next) i x ∙ ap (λ (a : Bool). m .leads i x || (eqb x (m .next) && a)) (past-ended o (b .tells) i)
+      let o = orderly h (t .sound .turns) in
+      opening-leads o (t .tells) (m .next) i x ∙ ap (λ (a : Bool). m .leads i x || (eqb x (m .next) && a)) (past-ended o (t .tells) i)
 
   -- no job is open twice
   jobs-once : Once (m .jobs)
   unfolding open-now kept
   jobs-once =
-      subst Once (sym (b .tells .jobs))
+      subst Once (sym (t .tells .jobs))
       (once-if (open-now h) (λ x r.
       let k = before-from-only (λ j. not (has (ended h) j)) (kept h) r in
-      let q = orderly h (b .sound .turns) .rising x x (before-from-only (λ j. not (has (abandoned h) j)) (opened h) k) in
+      let q = orderly h (t .sound .turns) .rising x x (before-from-only (λ j. not (has (abandoned h) j)) (opened h) k) in
       omega arith))
 
-module _ {st : Held} {m : Memory} (seen : Seen st m) (unused : Unused m (m .next)) (led : OpenLeads m) (s : ℕ) (p : s < most-open) (shut : T (open-at st s) → ⊥) where
-  still-open : {i : ℕ} → i ∈ open-slots st → (i ∈ open-slots (opened-at st s)) × (i ≡ s → ⊥)
-  still-open {i} o = strike-from s (open-slots (opened-at st s)) (subst (λ (l : List ℕ). i ∈ l) (slots-opened st s shut) o)
+module _ {st : Held} {m : Memory} (seen : Seen st m) (unused : Unused m (m .next)) (led : OpenLeads m) (r s : ℕ) (p : s < most-open) (shut : T (open-at st s) → ⊥) where
+  still-open : {i : ℕ} → i ∈ open-slots st → (i ∈ open-slots (opened-at st r s)) × (i ≡ s → ⊥)
+  still-open {i} o = strike-from s (open-slots (opened-at st r s)) (subst (λ (l : List ℕ). i ∈ l) (slots-opened st r s shut) o)
 
-  new-or-old : {i : ℕ} → i ∈ open-slots (opened-at st s) → (i ≡ s) ⊎ (i ∈ open-slots st)
-  new-or-old {i} o = ⊎-elim inl (λ ne. inr (subst (λ (l : List ℕ). i ∈ l) (sym (slots-opened st s shut)) (strike-keeps o ne))) (answer (eq-test i s))
+  new-or-old : {i : ℕ} → i ∈ open-slots (opened-at st r s) → (i ≡ s) ⊎ (i ∈ open-slots st)
+  new-or-old {i} o = ⊎-elim inl (λ ne. inr (subst (λ (l : List ℕ). i ∈ l) (sym (slots-opened st r s shut)) (strike-keeps o ne))) (answer (eq-test i s))
 
-  new-open : s ∈ open-slots (opened-at st s)
-  new-open = slot-if (opened-at st s) p (subst T (sym (opened-open-at st s s)) (T-or-right (open-at st s) (eqb s s) (eq-test s s .shows refl)))
+  new-open : s ∈ open-slots (opened-at st r s)
+  new-open = slot-if (opened-at st r s) p (subst T (sym (opened-open-at st r s s)) (T-or-right (open-at st s) (eqb s s) (eq-test s s .shows refl)))
 
-  new-number : {i : ℕ} → i ≡ s → number-at (opened-at st s) i ≡ m .next
+  new-number : {i : ℕ} → i ≡ s → number-at (opened-at st r s) i ≡ m .next
   new-number {i} e =
-      number-opened st s i (subst (λ (x : ℕ). x < most-open) (sym e) p)
+      number-opened st r s i (subst (λ (x : ℕ). x < most-open) (sym e) p)
       ∙ ap (λ (b : Bool). cond b (st .next) (number-at st i)) (test-true (eq-test i s) e) ∙ seen .next
 
-  old-number : {i : ℕ} → i ∈ open-slots st → number-at (opened-at st s) i ≡ number-at st i
+  old-number : {i : ℕ} → i ∈ open-slots st → number-at (opened-at st r s) i ≡ number-at st i
   old-number {i} o =
-      number-opened st s i (slot-from st o .0) ∙ ap (λ (b : Bool). cond b (st .next) (number-at st i)) (test-false (eq-test i s) (still-open o .1))
+      number-opened st r s i (slot-from st o .0) ∙ ap (λ (b : Bool). cond b (st .next) (number-at st i)) (test-false (eq-test i s) (still-open o .1))
 
   -- no old slot has the new number
-  new-differs : {i x : ℕ} → i ≡ s → x ∈ open-slots st → number-at (opened-at st s) i ≡ number-at (opened-at st s) x → ⊥
+  new-differs : {i x : ℕ} → i ≡ s → x ∈ open-slots st → number-at (opened-at st r s) i ≡ number-at (opened-at st r s) x → ⊥
   new-differs {x = x} e o q = unused .not-open (Memᴰ·cast (sym (new-number e) ∙ q ∙ old-number o) (seen .a-job x o))
 
   -- what is blank at the new slot, and as it was at the others, is what the memory has of an unused number and of the others
-  filled : (f : ℕ → Bool) {a b : Bool} {i : ℕ} → i ∈ open-slots (opened-at st s) → f (m .next) ≡ false
-      → a ≡ not (eqb i s) && b → (i ∈ open-slots st → b ≡ f (number-at st i)) → a ≡ f (number-at (opened-at st s) i)
+  filled : (f : ℕ → Bool) {a b : Bool} {i : ℕ} → i ∈ open-slots (opened-at st r s) → f (m .next) ≡ false
+      → a ≡ not (eqb i s) && b → (i ∈ open-slots st → b ≡ f (number-at st i)) → a ≡ f (number-at (opened-at st r s) i)
   filled f {b = b} {i = i} o z e g =
       ⊎-elim
       (λ q. e ∙ ap (λ (x : Bool). not x && b) (test-true (eq-test i s) q) ∙ sym (ap f (new-number q) ∙ z))
       (λ q. e ∙ ap (λ (x : Bool). not x && b) (test-false (eq-test i s) (still-open q .1)) ∙ g q ∙ ap f (sym (old-number q)))
       (new-or-old o)
 
-  inside : {i : ℕ} → i ∈ open-slots (opened-at st s) → i < most-open
-  inside o = slot-from (opened-at st s) o .0
+  inside : {i : ℕ} → i ∈ open-slots (opened-at st r s) → i < most-open
+  inside o = slot-from (opened-at st r s) o .0
 
   -- the new slot is the one with the new number
-  is-new : {x : ℕ} → x ∈ open-slots (opened-at st s) → eqb x s ≡ eqb (number-at (opened-at st s) x) (m .next)
+  is-new : {x : ℕ} → x ∈ open-slots (opened-at st r s) → eqb x s ≡ eqb (number-at (opened-at st r s) x) (m .next)
   is-new {x} q =
-      same-test (eq-test x s) (eq-test (number-at (opened-at st s) x) (m .next)) new-number
+      same-test (eq-test x s) (eq-test (number-at (opened-at st r s) x) (m .next)) new-number
       (λ e. ⊎-elim (λ a. a) (λ a. absurd (new-differs refl a (new-number refl ∙ sym e))) (new-or-old q))
 
   -- the next number has no past
@@ -620,20 +658,39 @@ module _ {st : Held} {m : Memory} (seen : Seen st m) (unused : Unused m (m .next
       (λ r. false-is (unused .no-past (r .0) (r .2 .0)) (r .2 .2))
 
   -- the open slots that have a past come to lead to the new one
-  led-same : {i x : ℕ} → i ∈ open-slots (opened-at st s) → x ∈ open-slots (opened-at st s)
-      → bit (leads-at (opened-at st s) i) x ≡ opened-in m .leads (number-at (opened-at st s) i) (number-at (opened-at st s) x)
+  led-same : {i x : ℕ} → i ∈ open-slots (opened-at st r s) → x ∈ open-slots (opened-at st r s)
+      → bit (leads-at (opened-at st r s) i) x ≡ opened-in m .leads (number-at (opened-at st r s) i) (number-at (opened-at st r s) x)
   led-same {i} {x} o q =
-      let y = number-at (opened-at st s) x in
+      let y = number-at (opened-at st r s) x in
       filled (λ n. m .leads n y || (eqb y (m .next) && any-past m n)) o
       (ap₂ (λ (a b : Bool). a || (eqb y (m .next) && b)) (unused .no-leads y) no-past-yet ∙ and-false (eqb y (m .next)))
-      (opened-leads-at st s i (inside o) x)
+      (opened-leads-at st r s i (inside o) x)
       (λ a. ap₂ (λ (a b : Bool). a || b)
       (filled (λ n. m .leads (number-at st i) n) q (unused .not-led (number-at st i)) refl (λ b. seen .leads i x a b))
       (ap₂ (λ (a b : Bool). a && b) (is-new q) (ap₂ (λ (a b : Bool). a && b) (is-true {b = open-at st i} (slot-from st a .1)) (past-same seen i a))))
-      ∙ sym (led (number-at (opened-at st s) i) y)
+      ∙ sym (led (number-at (opened-at st r s) i) y)
+
+  -- the new slot is under the port of its open, as the new job is, and the others are where they were
+  port-same : {i : ℕ} → i ∈ open-slots (opened-at st r s) → (q : ℕ) → q < port-count
+      → bit (port-at (opened-at st r s) q) i ≡ eqb (entered an-open (m .next) r (m .port) (number-at (opened-at st r s) i)) q
+  port-same {i} o q small =
+      let n = number-at (opened-at st r s) i in
+      opened-port-at st r s i q small
+      ∙ ⊎-elim
+      (λ a.
+      ap (λ (b : Bool). (not b && bit (port-at st q) i) || (b && eqb q r)) (test-true (eq-test i s) a)
+      ∙ same-test (eq-test q r) (eq-test r q) sym sym
+      ∙ sym (ap (λ (b : Bool). eqb (cond b r (m .port n)) q) (test-true (eq-test n (m .next)) (new-number a))))
+      (λ a.
+      ap (λ (b : Bool). (not b && bit (port-at st q) i) || (b && eqb q r)) (test-false (eq-test i s) (still-open a .1))
+      ∙ or-false (bit (port-at st q) i)
+      ∙ seen .port i q a small
+      ∙ ap (λ (j : ℕ). eqb (m .port j) q) (sym (old-number a))
+      ∙ sym (ap (λ (b : Bool). eqb (cond b r (m .port n)) q) (test-false (eq-test n (m .next)) (λ e. new-differs refl a (new-number refl ∙ sym e)))))
+      (new-or-old o)
 
   -- a granted open keeps the rows and the memory alike
-  pub seen-open : Seen (opened-at st s) (opened-in m)
+  pub seen-open : Seen (opened-at st r s) (with-port (opened-in m) (entered an-open (m .next) r (m .port)))
   unfolding opened-at open-in step-in
   seen-open =
       record {
@@ -648,29 +705,46 @@ module _ {st : Held} {m : Memory} (seen : Seen st m) (unused : Unused m (m .next
             (λ a. Memᴰ·cast (old-number a) (Memᴰ·append-left (m .next ∷ []) (seen .a-job i a)))
             (new-or-old o);
         a-slot = λ j o. ⊎-elim
-            (λ a. let r = seen .a-slot j a in (r .0, still-open (r .1) .0, old-number (r .1) ∙ r .2))
+            (λ a. let z = seen .a-slot j a in (z .0, still-open (z .1) .0, old-number (z .1) ∙ z .2))
             (λ a. (s, new-open, new-number refl ∙ sym (List·Memᴰ·eq-of-singleton a)))
             (List·Memᴰ·append-cases (m .jobs) o);
         count = longer;
         own = λ i o a c real.
-            let n = number-at (opened-at st s) i in
-            filled (λ n. shown (m .own n) a c) o (shown-none (m .own (m .next)) a c (λ k. unused .no-own k c)) (opened-own-at st s i (inside o) a c real) (λ q. seen .own i q a c real)
+            let n = number-at (opened-at st r s) i in
+            filled (λ n. shown (m .own n) a c) o (shown-none (m .own (m .next)) a c (λ k. unused .no-own k c)) (opened-own-at st r s i (inside o) a c real) (λ q. seen .own i q a c real)
             ∙ sym (shown-same (opened-in m .own n) (m .own n) a c (λ k. opening-own (open-in m (m .next)) (m .next) n k c));
         past = λ i o a c real.
-            filled (λ n. shown (m .past n) a c) o (shown-none (m .past (m .next)) a c (λ k. unused .no-past k c)) (opened-past-at st s i (inside o) a c real)
+            filled (λ n. shown (m .past n) a c) o (shown-none (m .past (m .next)) a c (λ k. unused .no-past k c)) (opened-past-at st r s i (inside o) a c real)
             (λ q. seen .past i q a c real);
         leads = λ i x o q. led-same o q;
-        fits = opened-fits (seen .fits) s;
+        port = λ i q o small. port-same o q small;
+        fits = opened-fits (seen .fits) s r;
       }
     where
-      longer : length (open-slots (opened-at st s)) ≡ length (m .jobs ++ m .next ∷ [])
+      longer : length (open-slots (opened-at st r s)) ≡ length (m .jobs ++ m .next ∷ [])
       longer =
-          let a = strike-once (slots-once (opened-at st s)) new-open in
-          let b = ap length (slots-opened st s shut) in
+          let a = strike-once (slots-once (opened-at st r s)) new-open in
+          let b = ap length (slots-opened st r s shut) in
           let c = seen .count in
           omega (arith, length-append (m .jobs) (m .next ∷ []))
 
 -- ---- a request
+
+-- a memory given its own ports is seen as it was
+pub with-its-port : {st : Held} {m : Memory} → Seen st m → Seen st (with-port m (m .port))
+with-its-port seen =
+    record {
+      next = seen .next;
+      apart = seen .apart;
+      a-job = seen .a-job;
+      a-slot = seen .a-slot;
+      count = seen .count;
+      own = seen .own;
+      past = seen .past;
+      leads = seen .leads;
+      port = seen .port;
+      fits = seen .fits;
+    }
 
 module _ {st : Held} {m : Memory} (seen : Seen st m) where
   -- where fewer than 32 jobs are open there is a free slot
@@ -697,40 +771,39 @@ module _ {st : Held} {m : Memory} (seen : Seen st m) where
   module _ (unused : Unused m (m .next)) (led : OpenLeads m) (once : Once (m .jobs)) where
     -- what is wanted and gets no code is done alike
     pub seen-moved : (w : Want) (j c : ℕ) → first-of (tests (held right m) w j c) ≡ 0
-        → Seen (moved st w j c) (move-all right m (event-of (held right m .next) w j c))
-    unfolding tests moved event-of move right
+        → Seen (moved st w j c) (with-port (move-all right m (event-of (held right m .next) w j c)) (entered w (held right m .next) j (m .port)))
+    unfolding tests moved event-of move right step-in blank fold
     seen-moved an-open j c z =
         unfold held in
         let n = length (m .jobs) in
-        let r = room (below-bound most-open n (passed (leb most-open n) 4 0 (passed (leb numbers (m .next)) 5 _ z .1) .0)) in
-        subst (λ (a : Option ℕ). Seen (with-slot a (λ s. opened-at st s) st) (opened-in m)) (sym (r .1))
-        (seen-open seen unused led (r .0) (r .2) (r .3))
+        let r = room (below-bound most-open n (passed (leb most-open n) 4 _ (passed (leb port-count j) 7 _ (passed (leb numbers (m .next)) 5 _ z .1) .1) .0)) in
+        subst (λ (a : Option ℕ). Seen (with-slot a (λ s. opened-at st j s) st) (with-port (opened-in m) (entered an-open (m .next) j (m .port)))) (sym (r .1))
+        (seen-open seen unused led j (r .0) (r .2) (r .3))
     seen-moved (a-step k) j c z =
         let a = passed (leb cells c) 1 _ z in
-        at-job (λ s. stepped-at st k s c) (λ n. step-in m (does k) n c) j (passed (not (held right m .is-open j)) 2 _ (a .1) .0)
-        (λ s o. seen-step seen k s c o (below-bound cells c (a .0)))
+        with-its-port (at-job (λ s. stepped-at st k s c) (λ n. step-in m (does k) n c) j (passed (not (held right m .is-open j)) 2 _ (a .1) .0)
+        (λ s o. seen-step seen k s c o (below-bound cells c (a .0))))
     seen-moved an-end j c z =
-        at-job (λ s. ended-at st s) (λ n. blank (fold (step-in m ending n 0) n) n) j (passed (not (held right m .is-open j)) 2 0 z .0) (seen-end seen once)
+        with-its-port (at-job (λ s. ended-at st s) (λ n. blank (fold (step-in m ending n 0) n) n) j (passed (not (held right m .is-open j)) 2 0 z .0) (seen-end seen once))
     seen-moved an-abandon j c z =
-        at-job (λ s. abandoned-at st s) (λ n. blank m n) j (passed (not (held right m .is-open j)) 2 _ z .0) (seen-abandon seen once)
+        with-its-port (at-job (λ s. abandoned-at st s) (λ n. blank m n) j (passed (not (held right m .is-open j)) 2 _ z .0) (seen-abandon seen once))
     seen-moved a-publish j c z =
         let a = passed (leb cells c) 1 _ z in
-        at-job (λ s. ended-at (stepped-at st write s c) s) (λ n. let w = step-in m (does write) n c in blank (fold (step-in w ending n 0) n) n) j
+        with-its-port (at-job (λ s. ended-at (stepped-at st write s c) s) (λ n. let w = step-in m (does write) n c in blank (fold (step-in w ending n 0) n) n) j
         (passed (not (held right m .is-open j)) 2 _ (a .1) .0)
         (λ s o.
         unfold number-at stepped-at step-in in
-        seen-end (seen-step seen write s c o (below-bound cells c (a .0))) once s (subst (λ (l : List ℕ). s ∈ l) (sym (slots-stepped st write s c)) o))
-    seen-moved nothing j c z = seen
+        seen-end (seen-step seen write s c o (below-bound cells c (a .0))) once s (subst (λ (l : List ℕ). s ∈ l) (sym (slots-stepped st write s c)) o)))
+    seen-moved nothing j c z = with-its-port seen
 
 -- a request keeps the rows and the memory alike
-pub seen-after : {first : ℕ} {h : History} {st : Held} {m : Memory} → Beside first h m → Seen st m
-    → (r : Request) → Seen (after st r) (move-all right m (granted-of (held right m) r))
-unfolding after granted-of
-seen-after {st = st} {m = m} b seen r =
-    subst (λ (n : ℕ). Seen (cond (eqb n 0) next st) (move-all right m (cond (eqb code 0) event []))) (sym (agree-code (seen-agree seen) r))
-    (by-test (λ g. Seen (cond g next st) (move-all right m (cond g event []))) (eq-test code 0)
-    (λ z. seen-moved seen (next-unused b) (next-led b) (jobs-once b) (want (r .kind)) (r .job) (r .cell) (unfold code-of in passed (not (eqb (r .byte1) 0)) 0 _ z .1))
-    (λ z. seen))
+pub seen-after : {b : Book} {h : History} {st : Held} {m : Memory} → Beside b h m → Seen st m → (r : Request) → Seen (after st r) (held-after right m r)
+unfolding after held-after granted-of ports-after
+seen-after {st = st} {m = m} t seen r =
+    subst (λ (n : ℕ). Seen (cond (eqb n 0) next st) (with-port (move-all right m (cond (eqb code 0) event [])) (cond (eqb code 0) port (m .port)))) (sym (agree-code (seen-agree seen) r))
+    (by-test (λ g. Seen (cond g next st) (with-port (move-all right m (cond g event [])) (cond g port (m .port)))) (eq-test code 0)
+    (λ z. seen-moved seen (next-unused t) (next-led t) (jobs-once t) (want (r .kind)) (r .job) (r .cell) (unfold code-of in passed (not (eqb (r .byte1) 0)) 0 _ z .1))
+    (λ z. with-its-port seen))
   where
     code : ℕ
     code = code-of (held right m) r
@@ -740,3 +813,6 @@ seen-after {st = st} {m = m} b seen r =
 
     event : List Event
     event = event-of (held right m .next) (want (r .kind)) (r .job) (r .cell)
+
+    port : ℕ → ℕ
+    port = entered (want (r .kind)) (held right m .next) (r .job) (m .port)

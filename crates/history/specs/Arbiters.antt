@@ -1,11 +1,11 @@
 -- Any arbiter whatever, with states of any sort, and what demand 2 asks of it (`Exact`); the bounded memory as one. Promises has that it is exact (`memory-meets`), and the
--- crate `refuted` has four sorts of arbiter that are not.
+-- crate `refuted` has five sorts of arbiter that are not.
 -- Assumes nothing.
 use mathlib.Core.Path.{_≡_, refl, ap}
 use mathlib.Core.List.{List, [], _∷_}
 use Prim.Native.Nat.{ℕ}
-use Rattle.history.specs.Replies.{Request, Reply, reply-of, granted-of, replies}
-use Rattle.history.specs.Memory.{Memory, fresh, right, move-all, held, held-replies}
+use Rattle.history.specs.Replies.{Request, Reply, reply-of, replies}
+use Rattle.history.specs.Memory.{Memory, fresh, right, held, held-after, held-replies}
 
 -- states of any sort, a fresh one for each first number; for a state and a request the answer, and the next state
 pub record Arbiter : Type 1 where
@@ -29,8 +29,8 @@ Exact a = (first : ℕ) (rs : List Request) → answers a (a .fresh first) rs �
 
 -- the bounded memory as an arbiter
 abbrev pub of-memory : Arbiter
-of-memory = record { State = Memory; fresh = fresh; answer = λ m r. reply-of (held right m) r; next = λ m r. move-all right m (granted-of (held right m) r) }
+of-memory = record { State = Memory; fresh = fresh; answer = λ m r. reply-of (held right m) r; next = λ m r. held-after right m r }
 
 pub memory-answers : (m : Memory) (rs : List Request) → answers of-memory m rs ≡ held-replies right m rs
 memory-answers m [] = refl
-memory-answers m (r ∷ rs) = ap (λ (l : List Reply). reply-of (held right m) r ∷ l) (memory-answers (move-all right m (granted-of (held right m) r)) rs)
+memory-answers m (r ∷ rs) = ap (λ (l : List Reply). reply-of (held right m) r ∷ l) (memory-answers (held-after right m r) rs)

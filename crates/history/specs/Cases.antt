@@ -4,7 +4,7 @@
 -- A case is a first number, the requests each with the reply expected of it, the order of the history that they leave, the places of the
 -- steps, openings and ends in that order's layout, and whether it is the only order. The statement holds every reply, code and job, to what the full history
 -- gives and to what the bounded memory gives. What `only-one` means is proved in Promises (`tried`).
--- After them, 6 before 5 (`numbers-before-slots`), what adds leave and show in a log and in a layout of it (`counted-log`, `counted-laid`), and the example of the rules, its bytes too (`rules-replies`, `rules-read`).
+-- After them, 6 before 5 (`numbers-before-slots`), the ports of document 02, order 9 (`port-cases`), what adds leave and show in a log and in a layout of it (`counted-log`, `counted-laid`), and the example of the rules, its bytes too (`rules-replies`, `rules-read`).
 -- Assumes nothing.
 use mathlib.Core.Path.{_≡_, refl, sym, ap, _∙_}
 use mathlib.Core.Bool.{Bool, true, false}
@@ -15,16 +15,20 @@ use Rattle.graph.specs.Lists.{_∈_, strike}
 use Rattle.graph.specs.Reach.{circular}
 use Rattle.graph.specs.Listing.{ready, lowest-first, forced}
 use Rattle.history.specs.Events.{write, does, History, Step, step-at, opened, ended, abandoned, kept, open-now, all-steps, kept-steps, wrote, conflict, precedes, has-circle}
-use Rattle.history.specs.Replies.{Request, Reply, want, tests, code-of, event-of, job-of, reply-of, granted-of, full, reply, after, replies, history-of}
+use Rattle.history.specs.Replies.{Request, Reply, want, tests, code-of, event-of, job-of, reply-of, granted-of, ports-after, full, reply, after, replies, history-of, book-of}
 use Rattle.history.specs.Formats.{records}
 use Rattle.history.specs.Orders.{layout, order-of}
 use Rattle.history.specs.Run.{World, put, act-as, run, start, writes-at, last-write, adds-at, adds-since}
-use Rattle.history.specs.Memory.{fresh, meets, touches, same-kind, same-deed, step-in, blank, fold, right, open-in, move, held, held-replies}
+use Rattle.history.specs.Memory.{Memory, fresh, meets, touches, same-kind, same-deed, step-in, blank, fold, right, open-in, move, held, held-after, held-replies}
 
 -- ---- requests and replies, short
 
+-- `open-at 2`: an open of port 2; `open-one`: of port 0
+abbrev pub open-at : ℕ → Request
+open-at p = record { kind = 1; byte1 = 0; cell = 0; job = p }
+
 abbrev pub open-one : Request
-open-one = record { kind = 1; byte1 = 0; cell = 0; job = 0 }
+open-one = open-at 0
 
 -- `reads 1 5`: job 1 reads cell 5
 abbrev pub reads : ℕ → ℕ → Request
@@ -62,10 +66,10 @@ infix 70 _gets_
 abbrev pub _gets_ : Request → Reply → Exchange
 r gets a = record { asked = r; answered = a }
 
--- n opens, granted the numbers from j on
-abbrev pub opens-from : ℕ → ℕ → List Exchange
-opens-from zero j = []
-opens-from (suc n) j = open-one gets granted j ∷ opens-from n (suc j)
+-- n opens of port p, granted the numbers from j on
+abbrev pub opens-from : ℕ → ℕ → ℕ → List Exchange
+opens-from p zero j = []
+opens-from p (suc n) j = open-at p gets granted j ∷ opens-from p n (suc j)
 
 -- ---- what is expected of a case, and what is computed
 
@@ -104,9 +108,9 @@ expected c = record { by-history = replies-of c; by-memory = replies-of c; order
 
 -- opens every definition that the table computes with, so that a table of cases needs to open only this one
 unfoldable pub computed : Case → Outcome
-unfolding reply reply-of code-of tests want job-of full after granted-of event-of
+unfolding reply reply-of code-of tests want job-of full after granted-of event-of ports-after
     opened ended abandoned kept open-now all-steps kept-steps wrote conflict has-circle circular strike order-of lowest-first ready
-    right held move open-in step-in blank fold meets touches same-kind same-deed
+    right held held-after move open-in step-in blank fold meets touches same-kind same-deed
 computed c =
     let h = history-of (c .first) (requests-of c) in
     record {
@@ -484,14 +488,127 @@ own-cases c = rows computed expected (refl, (refl, (refl, (refl, (refl, (refl, (
 
 -- ---- 6 before 5
 
--- 32 opens up to the last number, and one more: there is neither a number left nor a slot, and the answer is 6
+-- 32 opens up to the last number, 16 of port 0 and 16 of port 1, and three more: there is neither a number left nor a slot, nor room at port 0, and 3 is no port, and the answer
+-- is 6
 abbrev pub full-and-spent : List Exchange
-full-and-spent = opens-from 32 4_294_967_264 ++ open-one gets refused 6 ∷ []
+full-and-spent = opens-from 0 16 4_294_967_264 ++ opens-from 1 16 4_294_967_280 ++ open-at 2 gets refused 6 ∷ open-at 0 gets refused 6 ∷ open-at 3 gets refused 6 ∷ []
 
 -- the full history's replies are these
 pub numbers-before-slots : replies 4_294_967_264 (map (λ e. e .asked) full-and-spent) ≡ map (λ e. e .answered) full-and-spent
-unfolding reply reply-of code-of tests want job-of full after granted-of event-of opened ended abandoned kept open-now
+unfolding reply reply-of code-of tests want job-of full after granted-of event-of ports-after opened ended abandoned kept open-now
 numbers-before-slots = refl
+
+-- ---- ports
+
+-- a first number, the requests with their replies, and how many open jobs of the ports 0, 1 and 2 they leave
+pub record Ports : Type 0 where
+  pub first : ℕ
+  pub exchanges : List Exchange
+  pub crowds : List ℕ
+
+-- the replies and the counts, of the full history and of the bounded memory
+pub record Counted : Type 0 where
+  pub by-history : List Reply
+  pub by-memory : List Reply
+  pub of-history : List ℕ
+  pub of-memory : List ℕ
+
+abbrev pub memory-from : Memory → List Request → Memory
+memory-from m [] = m
+memory-from m (r ∷ rs) = memory-from (held-after right m r) rs
+
+abbrev pub to-count : Ports → Counted
+to-count c =
+    let answered = map (λ e. e .answered) (c .exchanges) in
+    record { by-history = answered; by-memory = answered; of-history = c .crowds; of-memory = c .crowds }
+
+unfoldable pub counts : Ports → Counted
+unfolding computed
+counts c =
+    let asked = map (λ e. e .asked) (c .exchanges) in
+    let three : List ℕ = 0 ∷ 1 ∷ 2 ∷ [] in
+    record {
+      by-history = replies (c .first) asked;
+      by-memory = held-replies right (fresh (c .first)) asked;
+      of-history = map (full (book-of (c .first) asked) (history-of (c .first) asked) .crowd) three;
+      of-memory = map (held right (memory-from (fresh (c .first)) asked) .crowd) three;
+    }
+
+-- the job field of an open is its port: 3 is none, nor is a number that has 0 to 2 in its low bytes; 1 before 8. A refusal counts for no port
+abbrev pub no-port : Ports
+no-port =
+    record {
+      first = 7;
+      exchanges =
+          open-at 3 gets refused 8 ∷ open-at 256 gets refused 8 ∷ open-at 65_537 gets refused 8 ∷ open-at 4_294_967_295 gets refused 8
+          ∷ record { kind = 1; byte1 = 1; cell = 0; job = 3 } gets refused 1
+          ∷ open-at 2 gets granted 7 ∷ open-at 3 gets refused 8 ∷ [];
+      crowds = 0 ∷ 0 ∷ 1 ∷ [];
+    }
+
+-- a port is not the number of a job: jobs 0, 1 and 2 have the ports 2, 0 and 0
+abbrev pub port-no-number : Ports
+port-no-number =
+    record {
+      first = 0;
+      exchanges = open-at 2 gets granted 0 ∷ open-at 0 gets granted 1 ∷ open-at 0 gets granted 2 ∷ end 2 gets granted 2 ∷ [];
+      crowds = 1 ∷ 0 ∷ 1 ∷ [];
+    }
+
+-- 6 before 8: the last number is left, and then it is not
+abbrev pub spent-no-port : Ports
+spent-no-port =
+    record {
+      first = 4_294_967_295;
+      exchanges = open-at 3 gets refused 8 ∷ open-at 1 gets granted 4_294_967_295 ∷ open-at 3 gets refused 6 ∷ [];
+      crowds = 0 ∷ 1 ∷ 0 ∷ [];
+    }
+
+-- an end, an abandon and a publish each take one from the port of their job and from no other; a step takes none, nor does a refused end
+abbrev pub port-left : Ports
+port-left =
+    record {
+      first = 1;
+      exchanges =
+          open-at 1 gets granted 1 ∷ open-at 1 gets granted 2 ∷ open-at 1 gets granted 3 ∷ open-at 1 gets granted 4
+          ∷ open-at 0 gets granted 5 ∷ open-at 2 gets granted 6
+          ∷ end 1 gets granted 1 ∷ abandon 2 gets granted 2 ∷ publishes 3 7 gets granted 3
+          ∷ reads 4 5 gets granted 4 ∷ end 1 gets refused 3 ∷ [];
+      crowds = 1 ∷ 1 ∷ 1 ∷ [];
+    }
+
+-- of port 0 the 17th open gets 9, while port 1 has room; after an end there is room for one, and after an abandon
+abbrev pub port-full : Ports
+port-full =
+    record {
+      first = 1;
+      exchanges =
+          opens-from 0 16 1 ++ open-at 0 gets refused 9
+          ∷ open-at 1 gets granted 17 ∷ open-at 0 gets refused 9
+          ∷ end 3 gets granted 3 ∷ open-at 0 gets granted 18 ∷ open-at 0 gets refused 9
+          ∷ abandon 18 gets granted 18 ∷ open-at 0 gets granted 19 ∷ open-at 0 gets refused 9
+          ∷ end 17 gets granted 17 ∷ open-at 0 gets refused 9 ∷ [];
+      crowds = 16 ∷ 0 ∷ 0 ∷ [];
+    }
+
+-- 32 opens, 16 of port 0 and 16 of port 1: 8 before 5, and 5 before 9. Once a job of port 0 has ended, port 1 has no room still; one of port 2 is opened, and the next gets 5
+abbrev pub ports-full : Ports
+ports-full =
+    record {
+      first = 1;
+      exchanges =
+          opens-from 0 16 1 ++ opens-from 1 16 17 ++ open-at 3 gets refused 8
+          ∷ open-at 0 gets refused 5 ∷ open-at 2 gets refused 5
+          ∷ end 6 gets granted 6 ∷ open-at 1 gets refused 9 ∷ open-at 2 gets granted 33 ∷ open-at 2 gets refused 5 ∷ [];
+      crowds = 15 ∷ 16 ∷ 1 ∷ [];
+    }
+
+abbrev pub port-table : List Ports
+port-table = no-port ∷ port-no-number ∷ spent-no-port ∷ port-left ∷ port-full ∷ ports-full ∷ []
+
+pub port-cases : (c : Ports) → c ∈ port-table → counts c ≡ to-count c
+unfolding counts
+port-cases c = rows counts to-count (refl, (refl, (refl, (refl, (refl, (refl, tt))))))
 
 -- ---- adds in a run
 
@@ -523,7 +640,7 @@ counted-laid = refl
 
 -- ---- the example of the rules, R139
 
--- job 1 wrote what job 2 read, so it may not read what 2 wrote, nor be abandoned; the cell of an end and both fields of an open are not looked at
+-- job 1 wrote what job 2 read, so it may not read what 2 wrote, nor be abandoned; the cells of an end and an open are not looked at
 abbrev pub rules-example : Case
 rules-example =
     record {
@@ -534,7 +651,7 @@ rules-example =
           ∷ reads 1 9 gets refused 7 ∷ abandon 1 gets refused 4
           ∷ record { kind = 4; byte1 = 0; cell = 65_535; job = 1 } gets granted 1
           ∷ reads 3 300 gets refused 2
-          ∷ record { kind = 1; byte1 = 0; cell = 9; job = 9 } gets granted 3
+          ∷ record { kind = 1; byte1 = 0; cell = 9; job = 0 } gets granted 3
           ∷ reads 1 0 gets refused 3 ∷ [];
       order = some (1 ∷ 2 ∷ 3 ∷ []);
       laid-out = 0 ∷ 2 ∷ 6 ∷ 1 ∷ 3 ∷ 4 ∷ 5 ∷ 7 ∷ [];
@@ -558,7 +675,7 @@ rules-bytes =
     ∷ 5 ∷ 0 ∷ 0 ∷ 0 ∷ 1 ∷ 0 ∷ 0 ∷ 0
     ∷ 4 ∷ 0 ∷ 255 ∷ 255 ∷ 1 ∷ 0 ∷ 0 ∷ 0
     ∷ 2 ∷ 0 ∷ 44 ∷ 1 ∷ 3 ∷ 0 ∷ 0 ∷ 0
-    ∷ 1 ∷ 0 ∷ 9 ∷ 0 ∷ 9 ∷ 0 ∷ 0 ∷ 0
+    ∷ 1 ∷ 0 ∷ 9 ∷ 0 ∷ 0 ∷ 0 ∷ 0 ∷ 0
     ∷ 2 ∷ 0 ∷ 0 ∷ 0 ∷ 1 ∷ 0 ∷ 0 ∷ 0
     ∷ 1 ∷ 0 ∷ 0
     ∷ []

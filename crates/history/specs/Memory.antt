@@ -3,7 +3,8 @@
 -- Three tables speak of each open job. own: the cells it has touched itself. past: the cells touched by ended jobs that it leads to, with
 -- nothing but ended jobs in between. leads: the open jobs that it leads to in that way. What lies behind another open job is left to that job,
 -- which could still be abandoned. Tables of jobs that are not open are blank. Openings and ends stand in the tables as reads, writes and adds do, on
--- cell 0: so past has an end where the job leads to some ended job, and then it leads to every job that is opened.
+-- cell 0: so past has an end where the job leads to some ended job, and then it leads to every job that is opened. Beside the tables stands the port of each
+-- open job; that of a job that is not open is asked by nobody.
 --
 -- The rule is four functions (`Rule`), so that a wrong build is another rule over the same memory (WrongBuilds of crate `refuted`).
 -- Assumes nothing.
@@ -16,7 +17,7 @@ use Rattle.graph.specs.Decide.{some-of}
 use Rattle.graph.specs.Lists.{strike}
 use Rattle.graph.specs.Reach.{reach}
 use Rattle.history.specs.Events.{Kind, read, write, add, kinds, alters, Deed, does, opening, ending, deeds, clash, Event, opens, steps, ends, abandons, has}
-use Rattle.history.specs.Replies.{cells, Request, Reply, Facts, reply-of, granted-of}
+use Rattle.history.specs.Replies.{cells, Request, Reply, Facts, reply-of, granted-of, ports-after, of-port}
 
 -- which cells were touched, by what was done
 abbrev pub Footprint : Type 0
@@ -28,9 +29,10 @@ pub record Memory : Type 0 where
   pub own : ℕ → Footprint
   pub past : ℕ → Footprint
   pub leads : ℕ → ℕ → Bool
+  pub port : ℕ → ℕ
 
 abbrev pub fresh : ℕ → Memory
-fresh first = record { next = first; jobs = []; own = λ j d c. false; past = λ j d c. false; leads = λ i j. false }
+fresh first = record { next = first; jobs = []; own = λ j d c. false; past = λ j d c. false; leads = λ i j. false; port = λ j. 0 }
 
 -- ---- the rule
 
@@ -73,11 +75,12 @@ step-in m d j c =
       own = λ i e c′. m .own i e c′ || (eqb i j && (same-deed e d && eqb c′ c));
       past = m .past;
       leads = λ i x. m .leads i x || (eqb x j && touches m d j c i);
+      port = m .port;
     }
 
 -- job j is open, and has done nothing
 unfoldable pub open-in : Memory → ℕ → Memory
-open-in m j = record { next = suc j; jobs = m .jobs ++ j ∷ []; own = m .own; past = m .past; leads = m .leads }
+open-in m j = record { next = suc j; jobs = m .jobs ++ j ∷ []; own = m .own; past = m .past; leads = m .leads; port = m .port }
 
 -- job j is open no more: its tables are blanked, and it is struck out everywhere
 unfoldable pub blank : Memory → ℕ → Memory
@@ -88,6 +91,7 @@ blank m j =
       own = λ i d c. not (eqb i j) && m .own i d c;
       past = λ i d c. not (eqb i j) && m .past i d c;
       leads = λ i x. not (eqb i j) && (not (eqb x j) && m .leads i x);
+      port = m .port;
     }
 
 -- what leads to j takes over j's own, past and leads
@@ -99,6 +103,7 @@ fold m j =
       own = m .own;
       past = λ i d c. m .past i d c || (m .leads i j && (m .own j d c || m .past j d c));
       leads = λ i x. m .leads i x || (m .leads i j && m .leads j x);
+      port = m .port;
     }
 
 pub record Rule : Type 0 where
@@ -140,11 +145,20 @@ held u m =
       is-open = has (m .jobs);
       has-written = λ j. some-of (λ k. alters k && some-of (λ c. m .own j (does k) c) (below cells)) kinds;
       count = length (m .jobs);
+      crowd = λ p. length (of-port (m .port) p (m .jobs));
       next = m .next;
       closes = λ k j c. let l = u .at-step m k j c .leads in reach l (m .jobs) j j;
     }
 
+-- a memory with other ports
+abbrev pub with-port : Memory → (ℕ → ℕ) → Memory
+with-port m p = record { next = m .next; jobs = m .jobs; own = m .own; past = m .past; leads = m .leads; port = p }
+
+-- the memory after a request: the events that it grants move all but the ports, which are no part of an event
+unfoldable pub held-after : Rule → Memory → Request → Memory
+held-after u m r = with-port (move-all u m (granted-of (held u m) r)) (ports-after (held u m) r (m .port))
+
 -- from a memory and a list of requests: the replies, one by one
 abbrev pub held-replies : Rule → Memory → List Request → List Reply
 held-replies u m [] = []
-held-replies u m (r ∷ rs) = reply-of (held u m) r ∷ held-replies u (move-all u m (granted-of (held u m) r)) rs
+held-replies u m (r ∷ rs) = reply-of (held u m) r ∷ held-replies u (held-after u m r) rs

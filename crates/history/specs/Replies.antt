@@ -1,7 +1,7 @@
--- The reply of the full history to a request: the codes 0 to 7 with the order in which they are tested, for any first number.
+-- The reply of the full history to a request: the codes 0 to 9 with the order in which they are tested, for any first number.
 --
--- The codes ask five things of whoever answers (`Facts`): is the job open, has it a granted write or add, how many jobs are open, which
--- number is next, would the step close a circle. The order of the tests stands here once, over any facts; the full history, the
+-- The codes ask six things of whoever answers (`Facts`): is the job open, has it a granted write or add, how many jobs are open, how many of
+-- them are of a port, which number is next, would the step close a circle. The order of the tests stands here once, over any facts; the full history, the
 -- bounded memory and the code differ only in where their facts come from.
 -- Assumes nothing.
 use mathlib.Core.Bool.{Bool, true, not, cond}
@@ -9,6 +9,7 @@ use mathlib.Core.List.{List, [], _∷_, _++_}
 use Prim.Native.Nat.{ℕ, _+_}
 use lib.Dec.{leb, eqb}
 use lib.ListN.{length}
+use Rattle.graph.specs.Lists.{only}
 use Rattle.history.specs.Events.{Kind, read, write, add, Event, opens, steps, ends, abandons, History, has, opened, open-now, wrote, kept-steps, has-circle}
 
 -- ---- requests and replies
@@ -34,6 +35,13 @@ most-open = 32
 abbrev pub numbers : ℕ
 numbers = 4294967296
 
+-- three ports, 0 to 2; 16 jobs of a port open at the most
+abbrev pub port-count : ℕ
+port-count = 3
+
+abbrev pub most-of-port : ℕ
+most-of-port = 16
+
 -- ---- what a request asks for
 
 pub data Want : Type 0 where
@@ -55,6 +63,7 @@ pub record Facts : Type 0 where
   pub is-open : ℕ → Bool
   pub has-written : ℕ → Bool
   pub count : ℕ
+  pub crowd : ℕ → ℕ
   pub next : ℕ
   pub closes : Kind → ℕ → ℕ → Bool
 
@@ -76,9 +85,9 @@ first-of (t ∷ ts) = cond (t .holds) (t .code) (first-of ts)
 abbrev pub step-tests : Facts → Kind → ℕ → ℕ → List Test
 step-tests f k j c = (leb cells c gives 2) ∷ (not (f .is-open j) gives 3) ∷ (f .closes k j c gives 7) ∷ []
 
--- an end for 3; an abandon for 3, then 4; an open for 6, then 5; a publish as its write is
+-- an end for 3; an abandon for 3, then 4; an open, whose job field names the port, for 6, then 8, then 5, then 9; a publish as its write is
 unfoldable pub tests : Facts → Want → ℕ → ℕ → List Test
-tests f an-open j c = (leb numbers (f .next) gives 6) ∷ (leb most-open (f .count) gives 5) ∷ []
+tests f an-open j c = (leb numbers (f .next) gives 6) ∷ (leb port-count j gives 8) ∷ (leb most-open (f .count) gives 5) ∷ (leb most-of-port (f .crowd j) gives 9) ∷ []
 tests f (a-step k) j c = step-tests f k j c
 tests f an-end j c = (not (f .is-open j) gives 3) ∷ []
 tests f an-abandon j c = (not (f .is-open j) gives 3) ∷ (f .has-written j gives 4) ∷ []
@@ -116,29 +125,71 @@ reply-of f r = record { code = code-of f r; job = cond (eqb (code-of f r) 0) (jo
 unfoldable pub granted-of : Facts → Request → List Event
 granted-of f r = cond (eqb (code-of f r) 0) (event-of (f .next) (want (r .kind)) (r .job) (r .cell)) []
 
+-- the port of each job, once the request is answered: a granted open puts its port down under the number just issued
+abbrev pub entered : Want → ℕ → ℕ → (ℕ → ℕ) → ℕ → ℕ
+entered an-open n p port = λ j. cond (eqb j n) p (port j)
+entered (a-step k) n p port = port
+entered an-end n p port = port
+entered an-abandon n p port = port
+entered a-publish n p port = port
+entered nothing n p port = port
+
+unfoldable pub ports-after : Facts → Request → (ℕ → ℕ) → ℕ → ℕ
+ports-after f r port = cond (eqb (code-of f r) 0) (entered (want (r .kind)) (f .next) (r .job) port) port
+
+-- of a list of jobs, those of port p
+abbrev pub of-port : (ℕ → ℕ) → ℕ → List ℕ → List ℕ
+of-port port p l = only (λ j. eqb (port j) p) l
+
 -- ---- the full history's
 
+-- what is known beside the history, which holds no ports: the first number, and the port of each job as its open gave it (0 for a number not issued)
+pub record Book : Type 0 where
+  pub first : ℕ
+  pub port : ℕ → ℕ
+
+abbrev pub blank-book : ℕ → Book
+blank-book first = record { first = first; port = λ j. 0 }
+
 -- numbers are issued one after the other from the first; a step would close a circle when with it the kept history has one
-unfoldable pub full : ℕ → History → Facts
-full first h = record { is-open = has (open-now h); has-written = wrote h; count = length (open-now h); next = first + length (opened h); closes = λ k j c. has-circle (kept-steps (h ++ steps k j c ∷ [])) }
+unfoldable pub full : Book → History → Facts
+full b h =
+    record {
+      is-open = has (open-now h);
+      has-written = wrote h;
+      count = length (open-now h);
+      crowd = λ p. length (of-port (b .port) p (open-now h));
+      next = b .first + length (opened h);
+      closes = λ k j c. has-circle (kept-steps (h ++ steps k j c ∷ []));
+    }
 
-unfoldable pub reply : ℕ → History → Request → Reply
-reply first h r = reply-of (full first h) r
+unfoldable pub reply : Book → History → Request → Reply
+reply b h r = reply-of (full b h) r
 
-unfoldable pub after : ℕ → History → Request → History
-after first h r = h ++ granted-of (full first h) r
+unfoldable pub after : Book → History → Request → History
+after b h r = h ++ granted-of (full b h) r
 
--- from a first number and a list of requests: the replies, one by one, and the history that they leave
-abbrev pub replies-from : ℕ → History → List Request → List Reply
-replies-from first h [] = []
-replies-from first h (r ∷ rs) = reply first h r ∷ replies-from first (after first h r) rs
+abbrev pub book-after : Book → History → Request → Book
+book-after b h r = record { first = b .first; port = ports-after (full b h) r (b .port) }
 
-abbrev pub history-from : ℕ → History → List Request → History
-history-from first h [] = h
-history-from first h (r ∷ rs) = history-from first (after first h r) rs
+-- from a first number and a list of requests: the replies, one by one, the history that they leave, and the book
+abbrev pub replies-from : Book → History → List Request → List Reply
+replies-from b h [] = []
+replies-from b h (r ∷ rs) = reply b h r ∷ replies-from (book-after b h r) (after b h r) rs
+
+abbrev pub history-from : Book → History → List Request → History
+history-from b h [] = h
+history-from b h (r ∷ rs) = history-from (book-after b h r) (after b h r) rs
+
+abbrev pub book-from : Book → History → List Request → Book
+book-from b h [] = b
+book-from b h (r ∷ rs) = book-from (book-after b h r) (after b h r) rs
 
 abbrev pub replies : ℕ → List Request → List Reply
-replies first rs = replies-from first [] rs
+replies first rs = replies-from (blank-book first) [] rs
 
 abbrev pub history-of : ℕ → List Request → History
-history-of first rs = history-from first [] rs
+history-of first rs = history-from (blank-book first) [] rs
+
+abbrev pub book-of : ℕ → List Request → Book
+book-of first rs = book-from (blank-book first) [] rs

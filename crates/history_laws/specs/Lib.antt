@@ -6,6 +6,7 @@ pub mod TurnLaws
 pub mod MemoryLaws
 pub mod MemoryTells
 pub mod Granted
+pub mod PortLaws
 pub mod Exact
 pub mod LayoutLaws
 pub mod RunLaws

@@ -2,8 +2,8 @@
 --
 -- To be believed for them: Events (events, conflict, precedence, circle), Replies (the full history's replies), Memory (the bounded memory),
 -- Tables (what its tables mean), Turns, Orders (layout, accepted), Run (what jobs read and leave), and of graph Walk, Lists and Listing.
--- In order: precedence and circles; replies; the bounded memory; orders; real time; what the auditor asked; the lowest-first order; granted histories; the
--- table of cases.
+-- In order: precedence and circles; replies; the bounded memory; orders; real time; what the auditor asked; the lowest-first order; granted histories; ports;
+-- the table of cases.
 -- Assumes nothing.
 use mathlib.Core.Path.{_≡_, refl, sym, ap, _∙_, subst}
 use mathlib.Core.Logic.{_↔_, ⊎-elim}
@@ -19,8 +19,8 @@ use Rattle.graph.specs.Lists.{_∈_, Before}
 use Rattle.graph.specs.Listing.{Forward, LowestFirst}
 use Rattle.graph.specs.ListingLaws.{lowest-only, forced-only}
 use Rattle.history.specs.Events.{Kind, write, add, kinds-clash, Deed, does, opening, ending, clash, opens, steps, ends, History, has, open-now, kept, Step, step-at, all-steps, kept-steps, Precedes, Circular, has-circle}
-use Rattle.history.specs.Replies.{cells, most-open, Request, Reply, an-open, a-step, an-end, a-publish, want, tests, code-of, event-of, job-of, reply-of, granted-of, full, reply, after, replies, history-of}
-use Rattle.history_laws.specs.ReplyLaws.{reply-for, OpenReply, open-reply, as-kind, publish-reply, after-granted, Alike, alike-reply, alike-granted}
+use Rattle.history.specs.Replies.{cells, most-open, port-count, most-of-port, Request, Reply, an-open, a-step, an-end, a-publish, want, tests, code-of, event-of, job-of, reply-of, granted-of, of-port, Book, full, reply, after, book-after, replies, history-of, book-of}
+use Rattle.history_laws.specs.ReplyLaws.{reply-for, OpenReply, open-reply, as-kind, publish-reply, after-granted, Alike, alike-reply, alike-granted, alike-ports}
 use Rattle.history.specs.Turns.{Turns}
 use Rattle.history.specs.Memory.{fresh, right, move-all, held-replies}
 use Rattle.history.specs.Tables.{Tells}
@@ -34,6 +34,7 @@ use Rattle.history_laws.specs.TurnLaws.{has-test, kept-step, open-not-ab
 use Rattle.history_laws.specs.MemoryLaws.{calm-last}
 use Rattle.history_laws.specs.MemoryTells.{tables-tell}
 use Rattle.history_laws.specs.Granted.{passed, undenied, proper-step, still-open, is-open-now, granted-sound}
+use Rattle.history_laws.specs.PortLaws.{granted-ported, port-given}
 use Rattle.history_laws.specs.Exact.{exact}
 use Rattle.history_laws.specs.LayoutLaws.{Onward, keeps-forward, forward-keeps}
 use Rattle.history_laws.specs.OrderLaws.{accepted-forward, forward-accepted, same-sources, same-read, same-write, same-cells, same-sights, accepted-no-circle, order-lowest, lowest-order, order-accepted, no-order-circle, order-exists, order-least}
@@ -53,97 +54,100 @@ circle-decided = has-circle-test
 -- ---- replies
 
 -- a well-formed step of an open job on a real cell is granted exactly when with it the kept history has no circle, and else gets 7
-pub record StepReply (first : ℕ) (h : History) (k : Kind) (r : Request) : Type 0 where
-  pub granted : (Circular (kept-steps (h ++ steps k (r .job) (r .cell) ∷ [])) → ⊥) ↔ (reply first h r .code ≡ 0)
-  pub refused : Circular (kept-steps (h ++ steps k (r .job) (r .cell) ∷ [])) ↔ (reply first h r .code ≡ 7)
+pub record StepReply (b : Book) (h : History) (k : Kind) (r : Request) : Type 0 where
+  pub granted : (Circular (kept-steps (h ++ steps k (r .job) (r .cell) ∷ [])) → ⊥) ↔ (reply b h r .code ≡ 0)
+  pub refused : Circular (kept-steps (h ++ steps k (r .job) (r .cell) ∷ [])) ↔ (reply b h r .code ≡ 7)
 
-step-code : (first : ℕ) (h : History) (k : Kind) (r : Request) → want (r .kind) ≡ a-step k → r .byte1 ≡ 0 → r .job ∈ open-now h → r .cell < cells
-    → reply first h r .code ≡ cond (has-circle (kept-steps (h ++ steps k (r .job) (r .cell) ∷ []))) 7 0
+step-code : (b : Book) (h : History) (k : Kind) (r : Request) → want (r .kind) ≡ a-step k → r .byte1 ≡ 0 → r .job ∈ open-now h → r .cell < cells
+    → reply b h r .code ≡ cond (has-circle (kept-steps (h ++ steps k (r .job) (r .cell) ∷ []))) 7 0
 unfolding tests full
-step-code first h k r asks zero-byte is-open real =
+step-code b h k r asks zero-byte is-open real =
     let c = has-circle (kept-steps (h ++ steps k (r .job) (r .cell) ∷ [])) in
-    ap (λ (a : Reply). a .code) (reply-for first h r (a-step k) asks zero-byte)
-    ∙ ap (λ (b : Bool). cond b 2 (cond (not (has (open-now h) (r .job))) 3 (cond c 7 0))) (test-false (le-test cells (r .cell)) (λ q. omega arith))
-    ∙ ap (λ (b : Bool). cond (not b) 3 (cond c 7 0)) (test-true (has-test (open-now h) (r .job)) is-open)
+    ap (λ (a : Reply). a .code) (reply-for b h r (a-step k) asks zero-byte)
+    ∙ ap (λ (q : Bool). cond q 2 (cond (not (has (open-now h) (r .job))) 3 (cond c 7 0))) (test-false (le-test cells (r .cell)) (λ q. omega arith))
+    ∙ ap (λ (q : Bool). cond (not q) 3 (cond c 7 0)) (test-true (has-test (open-now h) (r .job)) is-open)
 
-pub step-reply : (first : ℕ) (h : History) (k : Kind) (r : Request) → want (r .kind) ≡ a-step k → r .byte1 ≡ 0 → r .job ∈ open-now h → r .cell < cells → StepReply first h k r
-step-reply first h k r asks zero-byte is-open real =
+pub step-reply : (b : Book) (h : History) (k : Kind) (r : Request) → want (r .kind) ≡ a-step k → r .byte1 ≡ 0 → r .job ∈ open-now h → r .cell < cells → StepReply b h k r
+step-reply b h k r asks zero-byte is-open real =
     let d = has-circle-test (kept-steps (h ++ steps k (r .job) (r .cell) ∷ [])) in
-    let code = step-code first h k r asks zero-byte is-open real in
+    let code = step-code b h k r asks zero-byte is-open real in
     record {
-      granted = (λ free. code ∙ ap (λ (b : Bool). cond b 7 0) (test-false d free), λ e z. let q : _≡_ {A = ℕ} 7 0 = sym (code ∙ ap (λ (b : Bool). cond b 7 0) (test-true d z)) ∙ e in omega arith);
+      granted = (λ free. code ∙ ap (λ (q : Bool). cond q 7 0) (test-false d free), λ e z. let q : _≡_ {A = ℕ} 7 0 = sym (code ∙ ap (λ (q : Bool). cond q 7 0) (test-true d z)) ∙ e in omega arith);
       refused = (
-        λ z. code ∙ ap (λ (b : Bool). cond b 7 0) (test-true d z),
-        λ e. ⊎-elim (λ z. z) (λ free. absurd (let q : _≡_ {A = ℕ} 0 7 = sym (code ∙ ap (λ (b : Bool). cond b 7 0) (test-false d free)) ∙ e in omega arith)) (answer d),
+        λ z. code ∙ ap (λ (q : Bool). cond q 7 0) (test-true d z),
+        λ e. ⊎-elim (λ z. z) (λ free. absurd (let q : _≡_ {A = ℕ} 0 7 = sym (code ∙ ap (λ (q : Bool). cond q 7 0) (test-false d free)) ∙ e in omega arith)) (answer d),
       );
     }
 
--- an open: 6 once the last number is issued, else 5 while 32 jobs are open, else granted with the next number
-pub open-answered : (first : ℕ) (h : History) (r : Request) → want (r .kind) ≡ an-open → r .byte1 ≡ 0 → OpenReply first h r
+-- an open: 6 once the last number is issued, else 8 for a port that is none of the three, else 5 while 32 jobs are open, else 9 while 16 of its port are, else granted with
+-- the next number
+pub open-answered : (b : Book) (h : History) (r : Request) → want (r .kind) ≡ an-open → r .byte1 ≡ 0 → OpenReply b h r
 open-answered = open-reply
 
 -- an end of an open job is never refused: code 0 and the job, whatever its cell field
-pub end-granted : (first : ℕ) (h : History) (r : Request) → want (r .kind) ≡ an-end → r .byte1 ≡ 0 → r .job ∈ open-now h → reply first h r ≡ record { code = 0; job = r .job }
+pub end-granted : (b : Book) (h : History) (r : Request) → want (r .kind) ≡ an-end → r .byte1 ≡ 0 → r .job ∈ open-now h → reply b h r ≡ record { code = 0; job = r .job }
 unfolding tests full job-of
-end-granted first h r asks zero-byte is-open =
-    let said : Bool → Reply = λ b. record { code = cond (not b) 3 0; job = cond (eqb (cond (not b) 3 0) 0) (r .job) 0 } in
-    let by-test : reply first h r ≡ said (has (open-now h) (r .job)) = reply-for first h r an-end asks zero-byte in
+end-granted b h r asks zero-byte is-open =
+    let said : Bool → Reply = λ q. record { code = cond (not q) 3 0; job = cond (eqb (cond (not q) 3 0) 0) (r .job) 0 } in
+    let by-test : reply b h r ≡ said (has (open-now h) (r .job)) = reply-for b h r an-end asks zero-byte in
     by-test ∙ ap said (test-true (has-test (open-now h) (r .job)) is-open)
 
 -- a refusal changes nothing: the history stays
-pub refusal-stays : (first : ℕ) (h : History) (r : Request) → (reply first h r .code ≡ 0 → ⊥) → after first h r ≡ h
+pub refusal-stays : (b : Book) (h : History) (r : Request) → (reply b h r .code ≡ 0 → ⊥) → after b h r ≡ h
 unfolding reply reply-of after granted-of
-refusal-stays first h r refused =
-    ap (λ (b : Bool). h ++ cond b (event-of (full first h .next) (want (r .kind)) (r .job) (r .cell)) []) (test-false (eq-test (code-of (full first h) r) 0) refused)
+refusal-stays b h r refused =
+    ap (λ (q : Bool). h ++ cond q (event-of (full b h .next) (want (r .kind)) (r .job) (r .cell)) []) (test-false (eq-test (code-of (full b h) r) 0) refused)
     ∙ append-nil h
 
 -- a publish (kind 6) gets the reply that the write (kind 3) of that cell by that job gets, code and job, whatever its byte 1: it is granted exactly when the write is
-pub publish-granted : (first : ℕ) (h : History) (r : Request) → reply first h (as-kind 6 r) ≡ reply first h (as-kind 3 r)
+pub publish-granted : (b : Book) (h : History) (r : Request) → reply b h (as-kind 6 r) ≡ reply b h (as-kind 3 r)
 unfolding reply
-publish-granted first h r = publish-reply (full first h) r
+publish-granted b h r = publish-reply (full b h) r
 
 -- granted, it leaves the history that the write and then the end (kind 4) leave, and the end is never refused there; refused, it leaves the history as it was, as the
 -- write does
-pub record Published (first : ℕ) (h : History) (r : Request) : Type 0 where
-  pub end-next : reply first h (as-kind 6 r) .code ≡ 0 → reply first (after first h (as-kind 3 r)) (as-kind 4 r) ≡ record { code = 0; job = r .job }
-  pub both : reply first h (as-kind 6 r) .code ≡ 0 → after first h (as-kind 6 r) ≡ after first (after first h (as-kind 3 r)) (as-kind 4 r)
-  pub neither : (reply first h (as-kind 6 r) .code ≡ 0 → ⊥) → (after first h (as-kind 6 r) ≡ h) × (after first h (as-kind 3 r) ≡ h)
+pub record Published (b : Book) (h : History) (r : Request) : Type 0 where
+  pub end-next : reply b h (as-kind 6 r) .code ≡ 0 → reply b (after b h (as-kind 3 r)) (as-kind 4 r) ≡ record { code = 0; job = r .job }
+  pub both : reply b h (as-kind 6 r) .code ≡ 0 → after b h (as-kind 6 r) ≡ after b (after b h (as-kind 3 r)) (as-kind 4 r)
+  pub neither : (reply b h (as-kind 6 r) .code ≡ 0 → ⊥) → (after b h (as-kind 6 r) ≡ h) × (after b h (as-kind 3 r) ≡ h)
 
-module _ (first : ℕ) (h : History) (r : Request) (z : reply first h (as-kind 6 r) .code ≡ 0) where
+module _ (b : Book) (h : History) (r : Request) (z : reply b h (as-kind 6 r) .code ≡ 0) where
   abbrev written : History
   written = h ++ steps write (r .job) (r .cell) ∷ []
 
-  write-left : after first h (as-kind 3 r) ≡ written
+  write-left : after b h (as-kind 3 r) ≡ written
   unfolding event-of
-  write-left = after-granted first h (as-kind 3 r) (a-step write) (unfold want in refl) (ap (λ (a : Reply). a .code) (sym (publish-granted first h r)) ∙ z)
+  write-left = after-granted b h (as-kind 3 r) (a-step write) (unfold want in refl) (ap (λ (a : Reply). a .code) (sym (publish-granted b h r)) ∙ z)
 
-  ends-next : reply first written (as-kind 4 r) ≡ record { code = 0; job = r .job }
+  ends-next : reply b written (as-kind 4 r) ≡ record { code = 0; job = r .job }
   unfolding reply reply-of code-of tests want
   ends-next =
       let p = passed (not (eqb (r .byte1) 0)) 0 _ z in
-      let open-job = still-open first h write (r .job) (r .cell) (proper-step (full first h) write (r .job) (r .cell) (p .1) .0) in
-      end-granted first written (as-kind 4 r) refl (eq-test (r .byte1) 0 .holds (undenied (eqb (r .byte1) 0) (p .0))) (is-open-now first written (r .job) open-job)
+      let open-job = still-open b h write (r .job) (r .cell) (proper-step (full b h) write (r .job) (r .cell) (p .1) .0) in
+      end-granted b written (as-kind 4 r) refl (eq-test (r .byte1) 0 .holds (undenied (eqb (r .byte1) 0) (p .0))) (is-open-now b written (r .job) open-job)
 
-  publish-left : after first h (as-kind 6 r) ≡ after first written (as-kind 4 r)
+  publish-left : after b h (as-kind 6 r) ≡ after b written (as-kind 4 r)
   unfolding event-of
   publish-left =
-      after-granted first h (as-kind 6 r) a-publish (unfold want in refl) z
+      after-granted b h (as-kind 6 r) a-publish (unfold want in refl) z
       ∙ sym (append-assoc h (steps write (r .job) (r .cell) ∷ []) (ends (r .job) ∷ []))
-      ∙ sym (after-granted first written (as-kind 4 r) an-end (unfold want in refl) (ap (λ (a : Reply). a .code) ends-next))
+      ∙ sym (after-granted b written (as-kind 4 r) an-end (unfold want in refl) (ap (λ (a : Reply). a .code) ends-next))
 
-pub publish-is-both : (first : ℕ) (h : History) (r : Request) → Published first h r
-publish-is-both first h r =
+pub publish-is-both : (b : Book) (h : History) (r : Request) → Published b h r
+publish-is-both b h r =
     record {
-      end-next = λ z. ap (λ (x : History). reply first x (as-kind 4 r)) (write-left first h r z) ∙ ends-next first h r z;
-      both = λ z. publish-left first h r z ∙ ap (λ (x : History). after first x (as-kind 4 r)) (sym (write-left first h r z));
-      neither = λ n. (refusal-stays first h (as-kind 6 r) n, refusal-stays first h (as-kind 3 r) (λ z. n (ap (λ (a : Reply). a .code) (publish-granted first h r) ∙ z)));
+      end-next = λ z. ap (λ (x : History). reply b x (as-kind 4 r)) (write-left b h r z) ∙ ends-next b h r z;
+      both = λ z. publish-left b h r z ∙ ap (λ (x : History). after b x (as-kind 4 r)) (sym (write-left b h r z));
+      neither = λ n. (refusal-stays b h (as-kind 6 r) n, refusal-stays b h (as-kind 3 r) (λ z. n (ap (λ (a : Reply). a .code) (publish-granted b h r) ∙ z)));
     }
 
--- the job and the cell of an open, the cell of an end or an abandon are not looked at: requests that differ in nothing else (`Alike` of ReplyLaws) get the
--- same reply and leave the same history
-pub fields-ignored : (first : ℕ) (h : History) (a b : Request) → Alike a b → (reply first h a ≡ reply first h b) × (after first h a ≡ after first h b)
+-- the cell of an open, an end or an abandon is not looked at: requests that differ in nothing else (`Alike` of ReplyLaws) get the same reply and leave the same history
+-- and the same book
+pub fields-ignored : (b : Book) (h : History) (r s : Request) → Alike r s → (reply b h r ≡ reply b h s) × (after b h r ≡ after b h s) × (book-after b h r ≡ book-after b h s)
 unfolding reply after
-fields-ignored first h a b s = (alike-reply (full first h) s, ap (λ (l : History). h ++ l) (alike-granted (full first h) s))
+fields-ignored b h r s a =
+    let f = full b h in
+    (alike-reply f a, ap (λ (l : History). h ++ l) (alike-granted f a), ap (λ (p : ℕ → ℕ). record { first = b .first; port = p }) (alike-ports f a (b .port)))
 
 -- ---- the bounded memory
 
@@ -156,7 +160,7 @@ pub memory-exact : (first : ℕ) (rs : List Request) → held-replies right (fre
 memory-exact = exact
 
 -- so the bounded memory is an arbiter that meets demand 2 (`Exact` of Arbiters), and any two that meet it give the same answers to any list of requests. WrongBuilds of
--- crate `refuted` has four sorts of arbiter that do not meet it
+-- crate `refuted` has five sorts of arbiter that do not meet it
 pub memory-meets : Exact of-memory
 memory-meets first rs = memory-answers (fresh first) rs ∙ exact first rs
 
@@ -245,12 +249,15 @@ module _ (first : ℕ) (rs : List Request) (r : Request) (asks : want (r .kind) 
   abbrev so-far : History
   so-far = history-of first rs
 
+  abbrev so-booked : Book
+  so-booked = book-of first rs
+
   abbrev OnlyAdds : Type 0
   OnlyAdds = (a : Step) → a ∈ kept-steps so-far → (a .job ≡ r .job → ⊥) → a .cell ≡ r .cell → (k : Kind) → a .deed ≡ does k → k ≡ add
 
-  pub add-granted : r .job ∈ open-now so-far → r .cell < cells → OnlyAdds → reply first so-far r .code ≡ 0
+  pub add-granted : r .job ∈ open-now so-far → r .cell < cells → OnlyAdds → reply so-booked so-far r .code ≡ 0
   add-granted is-open real only-adds =
-      step-reply first so-far add r asks zero-byte is-open real .granted .0
+      step-reply so-booked so-far add r asks zero-byte is-open real .granted .0
       (λ z. granted-sound first rs .no-circle
       (calm-last (kept-steps so-far) (step-at (length so-far) (does add) (r .job) (r .cell)) (λ x m c. apart x (x .deed) refl (λ k. only-adds x m (c .others) (c .same-cell) k) (c .clashes))
       (subst Circular (kept-step so-far (r .job) add (r .cell) (open-not-abandoned so-far is-open)) z)))
@@ -263,6 +270,21 @@ module _ (first : ℕ) (rs : List Request) (r : Request) (asks : want (r .kind) 
 -- and never more than 32 jobs are open
 pub never-over : (first : ℕ) (rs : List Request) → length (open-now (history-of first rs)) ≤ most-open
 never-over first rs = granted-sound first rs .few
+
+-- ---- ports
+
+-- from any first number, after any requests: at most 16 open jobs have any one port by the book
+pub never-over-port : (first : ℕ) (rs : List Request) (p : ℕ) → length (of-port (book-of first rs .port) p (open-now (history-of first rs))) ≤ most-of-port
+never-over-port first rs = granted-ported first rs .few
+
+-- and every open job has one of the three ports
+pub real-port : (first : ℕ) (rs : List Request) (j : ℕ) → j ∈ open-now (history-of first rs) → book-of first rs .port j < port-count
+real-port first rs = granted-ported first rs .real
+
+-- the port of a job is the one that its open named: where, after any requests, an open is granted, its job has that port in the book, whatever is requested then
+pub port-is-given : (first : ℕ) (rs : List Request) (r : Request) (more : List Request) → want (r .kind) ≡ an-open → reply (book-of first rs) (history-of first rs) r .code ≡ 0
+    → book-of first (rs ++ r ∷ more) .port (reply (book-of first rs) (history-of first rs) r .job) ≡ r .job
+port-is-given = port-given
 
 -- ---- the table of cases
 

@@ -2,7 +2,7 @@
 -- jobs after each kind of event.
 -- Assumes nothing.
 use mathlib.Core.Path.{_≡_, refl, sym, ap, ap₂, _∙_, subst}
-use mathlib.Core.Logic.{_⊎_, ⊎-elim}
+use mathlib.Core.Logic.{_⊎_, inl, inr, ⊎-elim}
 use mathlib.Core.Bool.{Bool, not, _&&_, and-comm}
 use mathlib.Core.List.{List, [], _∷_, _++_, append-nil, append-assoc, List·Memᴰ·head, List·Memᴰ·not-nil, List·Memᴰ·append-cases, Memᴰ·append-left, Memᴰ·append-right, List·Memᴰ·eq-of-singleton, Memᴰ·cast}
 use Prim.Native.Nat.{ℕ, zero, suc, _+_, _<_}
@@ -96,6 +96,13 @@ open-opened h m = kept-from h (open-from h m .0) .0
 pub open-not-abandoned : (h : History) {j : ℕ} → j ∈ open-now h → j ∈ abandoned h → ⊥
 open-not-abandoned h m = kept-from h (open-from h m .0) .1
 
+-- a job that is open after an event was open before it, or is opened by it
+pub open-next : (h : History) (e : Event) {j : ℕ} → j ∈ open-now (h ++ e ∷ []) → (j ∈ open-now h) ⊎ (j ∈ opened-by e)
+open-next h e m =
+    let o = open-from (h ++ e ∷ []) m in
+    let k = kept-from (h ++ e ∷ []) (o .0) in
+    ⊎-elim (λ n. inl (open-if h (kept-if h n (λ x. k .1 (old-in (abandoned-grows h e) x))) (λ x. o .1 (old-in (ended-grows h e) x)))) inr (which-in (opened-grows h e) (k .0))
+
 pub kept-steps-from : (h : History) {a : Step} → a ∈ kept-steps h → (a ∈ all-steps h) × (a .job ∈ abandoned h → ⊥)
 unfolding kept-steps
 kept-steps-from h {a} m =
@@ -125,7 +132,7 @@ leave-out l j i =
 only-leave-out : {X : Type 0} (f : X → ℕ) (a : List ℕ) (j : ℕ) (l : List X) → only (λ x. not (has (a ++ j ∷ []) (f x))) l ≡ only (λ x. not (eqb (f x) j)) (only (λ x. not (has a (f x))) l)
 only-leave-out f a j l = only-same _ _ l (λ x m. leave-out a j (f x)) ∙ sym (only-only (λ x. not (eqb (f x) j)) (λ x. not (has a (f x))) l)
 
-only-swap : {X : Type 0} (p q : X → Bool) (l : List X) → only p (only q l) ≡ only q (only p l)
+pub only-swap : {X : Type 0} (p q : X → Bool) (l : List X) → only p (only q l) ≡ only q (only p l)
 only-swap p q l = only-only p q l ∙ only-same _ _ l (λ x m. and-comm (q x) (p x)) ∙ sym (only-only q p l)
 
 -- the kept steps from all of them and the abandoned jobs

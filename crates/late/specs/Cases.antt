@@ -6,23 +6,28 @@ use mathlib.Core.Path.{_≡_, refl}
 use mathlib.Core.Bool.{Bool, true}
 use mathlib.Core.Option.{Option, some}
 use mathlib.Core.List.{List, [], _∷_, _++_, map}
-use Prim.Native.Nat.{ℕ}
+use Prim.Native.Nat.{ℕ, zero, suc}
 use lib.ListN.{take}
 use Rattle.graph.specs.Lists.{_∈_}
+use Rattle.marks.specs.Marks.{upto}
 use Rattle.marks.specs.Words.{marked}
 use Rattle.history.specs.Events.{read, write, Event, opens, steps, ends, kept-steps, has-circle}
 use Rattle.history.specs.Replies.{Reply}
 use Rattle.history.specs.Orders.{order-of}
 use Rattle.history.specs.Cases.{granted, refused, rows, computed}
 use Rattle.held.specs.Held.{Held, fresh-held}
-use Rattle.held.specs.Cases.{held-answers, request, set-of, State, state, held-of, first-rows, bare, blank, with-own, with-past}
-use Rattle.late.specs.Late.{Ask, asks, publishes, named, published, ended-steps, closes-circle, publish-code, full-code, late-reply, late-granted, late-after, late-replies, late-history, closed}
+use Rattle.held.specs.Cases.{held-answers, request, set-of, State, state, ported, held-of, first-rows, bare, blank, with-own, with-past}
+use Rattle.late.specs.Late.{Ask, asks, publishes, named, published, ended-steps, closes-circle, publish-code, full-code, late-reply, late-granted, late-after, late-book, late-replies, late-history, closed}
 use Rattle.late.specs.LateHeld.{leads-back, held-code, late-answer, late-next, late-answers}
 
 -- ---- what is asked, short
 
+-- `open-at 2`: an open of port 2; `open-one`: of port 0
+abbrev pub open-at : ℕ → Ask
+open-at p = asks (request 1 0 0 p)
+
 abbrev pub open-one : Ask
-open-one = asks (request 1 0 0 0)
+open-one = open-at 0
 
 abbrev pub reads : ℕ → ℕ → Ask
 reads j c = asks (request 2 0 c j)
@@ -41,6 +46,11 @@ pub record Exchange : Type 0 where
 infix 70 _gets_
 abbrev pub _gets_ : Ask → Reply → Exchange
 a gets r = record { asked = a; answered = r }
+
+-- n opens of port p, granted the numbers from j on
+abbrev pub opens-from : ℕ → ℕ → ℕ → List Exchange
+opens-from p zero j = []
+opens-from p (suc n) j = open-at p gets granted j ∷ opens-from p n (suc j)
 
 -- ---- the cases
 
@@ -63,7 +73,7 @@ expected c = let r = map (λ e. e .answered) (c .exchanges) in record { by-histo
 -- opens every definition that the table computes with
 unfoldable pub tried : Case → Outcome
 unfolding computed held-answers marked
-    named published ended-steps closes-circle publish-code full-code late-reply late-granted late-after closed
+    named published ended-steps closes-circle publish-code full-code late-reply late-granted late-after late-book closed
     leads-back held-code late-answer late-next
 tried c =
     record {
@@ -179,13 +189,47 @@ codes-in-order =
       order = some (1 ∷ 2 ∷ []);
     }
 
+-- a port is 0, 1 or 2, and 1 comes before 8; a refusal counts for no port
+abbrev pub no-port : Case
+no-port =
+    record {
+      exchanges =
+          open-at 3 gets refused 8 ∷ asks (request 1 1 0 3) gets refused 1 ∷ open-at 256 gets refused 8
+          ∷ open-at 2 gets granted 1 ∷ publish 1 [] gets granted 1 ∷ [];
+      order = some (1 ∷ []);
+    }
+
+-- of port 1 the 17th open gets 9, while port 0 has room; a publish leaves room for one, an abandon too
+abbrev pub port-full : Case
+port-full =
+    record {
+      exchanges =
+          opens-from 1 16 1 ++ open-at 1 gets refused 9
+          ∷ open-at 0 gets granted 17 ∷ open-at 1 gets refused 9
+          ∷ publish 2 [] gets granted 2 ∷ open-at 1 gets granted 18 ∷ open-at 1 gets refused 9
+          ∷ abandon 17 gets granted 17 ∷ open-at 1 gets refused 9
+          ∷ abandon 18 gets granted 18 ∷ open-at 1 gets granted 19 ∷ [];
+      order = some (2 ∷ []);
+    }
+
+-- 16 jobs of port 0 and 16 of port 1 are open: 8 before 5, and 5 before 9
+abbrev pub ports-full : Case
+ports-full =
+    record {
+      exchanges =
+          opens-from 0 16 1 ++ opens-from 1 16 17 ++ open-at 3 gets refused 8 ∷ open-at 0 gets refused 5 ∷ open-at 2 gets refused 5
+          ∷ publish 6 [] gets granted 6 ∷ open-at 1 gets refused 9 ∷ open-at 2 gets granted 33 ∷ open-at 2 gets refused 5 ∷ [];
+      order = some (6 ∷ []);
+    }
+
 abbrev pub late-table : List Case
 late-table =
-    both-publish ∷ other-cell ∷ read-granted ∷ open-left-out ∷ ended-counted ∷ abandoned-left-out ∷ in-time ∷ kinds-refused ∷ codes-in-order ∷ []
+    both-publish ∷ other-cell ∷ read-granted ∷ open-left-out ∷ ended-counted ∷ abandoned-left-out ∷ in-time ∷ kinds-refused ∷ codes-in-order
+    ∷ no-port ∷ port-full ∷ ports-full ∷ []
 
 pub late-cases : (c : Case) → c ∈ late-table → tried c ≡ expected c
 unfolding tried
-late-cases c = rows tried expected (refl, (refl, (refl, (refl, (refl, (refl, (refl, (refl, (refl, tt)))))))))
+late-cases c = rows tried expected (refl, (refl, (refl, (refl, (refl, (refl, (refl, (refl, (refl, (refl, (refl, (refl, tt))))))))))))
 
 -- ---- what the first profile's rule says
 
@@ -216,7 +260,7 @@ publish-log = refl
 
 -- ---- states that no requests give
 
--- a state, a publish, the answer to it and the next state
+-- a state, a publish or an open, the answer to it and the next state
 pub record MadeUp : Type 0 where
   pub before : State
   pub asked : Ask
@@ -236,22 +280,24 @@ abbrev pub written-out : MadeUp → Left
 written-out m = record { answered = m .answered; left = first-rows (held-of (m .left)) }
 
 -- the lower of the two open slots with the number publishes. Slot 2, another job with the same number, has read cell 5, and slot 3 has cell 70 in its past: both come to lead to slot 1
--- and take over what it has used and altered; slot 4 has read neither; slot 5 has read cell 5 and is not open
+-- and take over what it has used and altered; slot 4 has read neither; slot 5 has read cell 5 and is not open. The ports keep their slots
 abbrev pub publish-hands-on : MadeUp
 publish-hands-on =
     record {
       before =
-          state 9 (1 ∷ 2 ∷ 3 ∷ 4 ∷ [])
-          (bare 7 [] ∷ with-own 7 (4 ∷ []) (5 ∷ []) [] ∷ with-own 7 [] (5 ∷ []) [] ∷ with-past 8 [] [] (70 ∷ []) ∷ with-own 6 [] (6 ∷ []) [] ∷ with-own 5 [] (5 ∷ []) [] ∷ []);
+          ported (1 ∷ 2 ∷ []) (3 ∷ 4 ∷ 5 ∷ []) (1 ∷ [])
+          (state 9 (1 ∷ 2 ∷ 3 ∷ 4 ∷ [])
+          (bare 7 [] ∷ with-own 7 (4 ∷ []) (5 ∷ []) [] ∷ with-own 7 [] (5 ∷ []) [] ∷ with-past 8 [] [] (70 ∷ []) ∷ with-own 6 [] (6 ∷ []) [] ∷ with-own 5 [] (5 ∷ []) [] ∷ []));
       asked = publish 7 (70 ∷ 5 ∷ []);
       answered = granted 7;
       left =
-          state 9 (2 ∷ 3 ∷ 4 ∷ [])
+          ported (1 ∷ 2 ∷ []) (3 ∷ 4 ∷ 5 ∷ []) (1 ∷ [])
+          (state 9 (2 ∷ 3 ∷ 4 ∷ [])
           (
           bare 7 [] ∷ blank
           ∷ record { number = 7; leads = 4 ∷ []; own-used = 5 ∷ []; own-altered = []; past-used = 5 ∷ 70 ∷ []; past-altered = 5 ∷ 70 ∷ [] }
           ∷ with-past 8 (4 ∷ []) (5 ∷ 70 ∷ []) (5 ∷ 70 ∷ []) ∷ with-own 6 [] (6 ∷ []) [] ∷ with-own 5 [] (5 ∷ []) [] ∷ []
-          );
+          ));
     }
 
 -- a slot that is held to lead to itself publishes nothing; nor one whose past has the cell, and slot 1, which has read it, does not come to lead to it
@@ -273,9 +319,22 @@ others-no-bar =
       left = state 9 (1 ∷ []) (blank ∷ with-past 8 (1 ∷ []) (3 ∷ []) (3 ∷ []) ∷ []);
     }
 
+-- 6 before 8; and the last number is issued, of port 1, whose slots are open no more
+abbrev pub spent : MadeUp
+spent = let s = state 4_294_967_296 [] [] in record { before = s; asked = open-at 3; answered = refused 6; left = s }
+
+abbrev pub last-number : MadeUp
+last-number =
+    record {
+      before = ported (0 ∷ []) (upto 32) [] (state 4_294_967_295 [] []);
+      asked = open-at 1;
+      answered = granted 4_294_967_295;
+      left = ported [] (upto 32) [] (state 4_294_967_296 (0 ∷ []) (bare 4_294_967_295 [] ∷ []));
+    }
+
 abbrev pub made-up-table : List MadeUp
-made-up-table = publish-hands-on ∷ leads-to-itself ∷ past-bars ∷ others-no-bar ∷ []
+made-up-table = publish-hands-on ∷ leads-to-itself ∷ past-bars ∷ others-no-bar ∷ spent ∷ last-number ∷ []
 
 pub made-up-publishes : (m : MadeUp) → m ∈ made-up-table → made-up m ≡ written-out m
 unfolding made-up
-made-up-publishes m = rows made-up written-out (refl, (refl, (refl, (refl, tt))))
+made-up-publishes m = rows made-up written-out (refl, (refl, (refl, (refl, (refl, (refl, tt))))))

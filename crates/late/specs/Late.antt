@@ -12,7 +12,7 @@ use Rattle.graph.specs.Lists.{only}
 use Rattle.marks.specs.Marks.{upto}
 use Rattle.marks.specs.Words.{marked}
 use Rattle.history.specs.Events.{write, Event, opens, steps, ends, abandons, History, Step, has, ended, open-now, kept-steps, has-circle}
-use Rattle.history.specs.Replies.{cells, Request, Reply, Facts, _gives_, first-of, reply-of, granted-of, full}
+use Rattle.history.specs.Replies.{cells, Request, Reply, Facts, _gives_, first-of, reply-of, granted-of, ports-after, Book, blank-book, full}
 use Rattle.held.specs.Held.{word-marks}
 
 -- ---- what is asked
@@ -55,7 +55,7 @@ in-profile r = record { kind = late-kind (r .kind); byte1 = r .byte1; cell = r .
 
 -- the same facts, but no step is said to close a circle: a read is tested for 2 and 3 alone
 abbrev pub untested : Facts → Facts
-untested f = record { is-open = f .is-open; has-written = f .has-written; count = f .count; next = f .next; closes = λ k j c. false }
+untested f = record { is-open = f .is-open; has-written = f .has-written; count = f .count; crowd = f .crowd; next = f .next; closes = λ k j c. false }
 
 -- a publish is tested for 3, then 7
 unfoldable pub publish-code : Bool → Bool → ℕ
@@ -70,32 +70,44 @@ publish-answer code j = record { code = code; job = cond (eqb code 0) j 0 }
 unfoldable pub full-code : History → ℕ → List ℕ → ℕ
 full-code h j cs = publish-code (has (open-now h) j) (closes-circle h j cs)
 
-unfoldable pub late-reply : ℕ → History → Ask → Reply
-late-reply first h (asks r) = reply-of (untested (full first h)) (in-profile r)
-late-reply first h (publishes j ws) = publish-answer (full-code h j (named ws)) j
+unfoldable pub late-reply : Book → History → Ask → Reply
+late-reply b h (asks r) = reply-of (untested (full b h)) (in-profile r)
+late-reply b h (publishes j ws) = publish-answer (full-code h j (named ws)) j
 
 -- a refusal leaves the history as it was
-unfoldable pub late-granted : ℕ → History → Ask → List Event
-late-granted first h (asks r) = granted-of (untested (full first h)) (in-profile r)
-late-granted first h (publishes j ws) = cond (eqb (full-code h j (named ws)) 0) (published j (named ws)) []
+unfoldable pub late-granted : Book → History → Ask → List Event
+late-granted b h (asks r) = granted-of (untested (full b h)) (in-profile r)
+late-granted b h (publishes j ws) = cond (eqb (full-code h j (named ws)) 0) (published j (named ws)) []
 
-unfoldable pub late-after : ℕ → History → Ask → History
-late-after first h a = h ++ late-granted first h a
+unfoldable pub late-after : Book → History → Ask → History
+late-after b h a = h ++ late-granted b h a
 
--- from a first number and a list of what is asked: the replies, one by one, and the history that they leave
-abbrev pub late-replies-from : ℕ → History → List Ask → List Reply
-late-replies-from first h [] = []
-late-replies-from first h (a ∷ l) = late-reply first h a ∷ late-replies-from first (late-after first h a) l
+-- a publish opens no job
+unfoldable pub late-book : Book → History → Ask → Book
+late-book b h (asks r) = record { first = b .first; port = ports-after (untested (full b h)) (in-profile r) (b .port) }
+late-book b h (publishes j ws) = b
 
-abbrev pub late-history-from : ℕ → History → List Ask → History
-late-history-from first h [] = h
-late-history-from first h (a ∷ l) = late-history-from first (late-after first h a) l
+-- from a first number and a list of what is asked: the replies, one by one, the history that they leave, and the book
+abbrev pub late-replies-from : Book → History → List Ask → List Reply
+late-replies-from b h [] = []
+late-replies-from b h (a ∷ l) = late-reply b h a ∷ late-replies-from (late-book b h a) (late-after b h a) l
+
+abbrev pub late-history-from : Book → History → List Ask → History
+late-history-from b h [] = h
+late-history-from b h (a ∷ l) = late-history-from (late-book b h a) (late-after b h a) l
+
+abbrev pub late-book-from : Book → History → List Ask → Book
+late-book-from b h [] = b
+late-book-from b h (a ∷ l) = late-book-from (late-book b h a) (late-after b h a) l
 
 abbrev pub late-replies : ℕ → List Ask → List Reply
-late-replies first l = late-replies-from first [] l
+late-replies first l = late-replies-from (blank-book first) [] l
 
 abbrev pub late-history : ℕ → List Ask → History
-late-history first l = late-history-from first [] l
+late-history first l = late-history-from (blank-book first) [] l
+
+abbrev pub late-book-of : ℕ → List Ask → Book
+late-book-of first l = late-book-from (blank-book first) [] l
 
 -- ---- the log with the jobs still open taken out
 

@@ -1,5 +1,5 @@
 -- What the second profile keeps of a state, whatever the state holds: what an open, a step and the leaving of a slot keep, every ask keeps (`late-keeps`), so the ranges of the
--- numbers and the blank rows; and an open and an abandon are those of the first profile, whoever answers (`rest-reply`, `rest-granted`, `rest-next`).
+-- numbers and the blank rows; and an open and an abandon are those of the first profile, whoever answers (`rest-reply`, `rest-granted`, `rest-ports`, `rest-next`).
 -- Assumes nothing.
 use mathlib.Core.Path.{_≡_, sym, ap, ap₂, _∙_}
 use mathlib.Core.Logic.{_⊎_, inl, inr}
@@ -11,7 +11,7 @@ use Rattle.graph.specs.Decide.{by-test, eq-test, T-and-left}
 use Rattle.graph.specs.Lists.{here, later}
 use Rattle.marks.specs.Marks.{bit}
 use Rattle.history.specs.Events.{read, write}
-use Rattle.history.specs.Replies.{cells, most-open, Request, Want, an-open, an-abandon, want, Facts, first-of, tests, code-of, event-of, job-of, reply-of, granted-of}
+use Rattle.history.specs.Replies.{cells, most-open, Request, Want, an-open, an-abandon, want, Facts, first-of, tests, code-of, event-of, job-of, reply-of, granted-of, entered, ports-after}
 use Rattle.history_laws.specs.Granted.{below-bound, passed}
 use Rattle.held.specs.Held.{Held, open-at, leads-at, slot-of, facts, stepped-at, takes-over, ended-at, with-slot, moved, after}
 use Rattle.held_laws.specs.HeldMoves.{Moves, kept-at, kept-moved}
@@ -82,6 +82,10 @@ module _ (f : Facts) (r : Request) where
   pub rest-granted : Rest r → granted-of (untested f) (in-profile r) ≡ granted-of f r
   unfolding granted-of
   rest-granted e = ap₂ (λ (n : ℕ) (w : Want). cond (eqb n 0) (event-of (f .next) w (r .job) (r .cell)) []) (rest-code e) (rest-want e)
+
+  pub rest-ports : Rest r → (port : ℕ → ℕ) → ports-after (untested f) (in-profile r) port ≡ ports-after f r port
+  unfolding ports-after
+  rest-ports e port = ap₂ (λ (n : ℕ) (w : Want). cond (eqb n 0) (entered w (f .next) (r .job) port) port) (rest-code e) (rest-want e)
 
 pub rest-next : (h : Held) (r : Request) → Rest r → late-next h (asks r) ≡ after h r
 unfolding late-next after

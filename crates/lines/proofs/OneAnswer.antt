@@ -28,9 +28,9 @@ pub one-tail : (κs : Lfts 1) (a : Dens κs tail-kinds.ps) (x y : resT tail-kind
     → (x ≡ y) × (now (s .1 .0) ≡ now (t .1 .0))
 one-tail κs a x y s t p q = let one = starts-one p q in (one .1, one .0)
 
--- the lines: what it returns, and at exit the three arrays of the state, its fourth to sixth parameter, and the output, its eighth
-pub one-lines : (κs : Lfts 5) (a : Dens κs lines-kinds.ps) (x y : resT lines-kinds.r κs .Denot) (s t : AtExit (endedOf 5 lines-kinds.ps lines-kinds.r) κs)
+-- the lines: what it returns, and at exit the four arrays of the state, its fourth to seventh parameter, and the output, its ninth
+pub one-lines : (κs : Lfts 6) (a : Dens κs lines-kinds.ps) (x y : resT lines-kinds.r κs .Denot) (s t : AtExit (endedOf 6 lines-kinds.ps lines-kinds.r) κs)
     → lines-reads.Post κs a x s
     → lines-reads.Post κs a y t
-    → (x ≡ y) × (now (s .1 .1 .1 .0) ≡ now (t .1 .1 .1 .0)) × (now (s .1 .1 .1 .1 .0) ≡ now (t .1 .1 .1 .1 .0)) × (now (s .1 .1 .1 .1 .1 .0) ≡ now (t .1 .1 .1 .1 .1 .0)) × (now (s .1 .1 .1 .1 .1 .1 .1 .0) ≡ now (t .1 .1 .1 .1 .1 .1 .1 .0))
+    → (x ≡ y) × (now (s .1 .1 .1 .0) ≡ now (t .1 .1 .1 .0)) × (now (s .1 .1 .1 .1 .0) ≡ now (t .1 .1 .1 .1 .0)) × (now (s .1 .1 .1 .1 .1 .0) ≡ now (t .1 .1 .1 .1 .1 .0)) × (now (s .1 .1 .1 .1 .1 .1 .0) ≡ now (t .1 .1 .1 .1 .1 .1 .0)) × (now (s .1 .1 .1 .1 .1 .1 .1 .1 .0) ≡ now (t .1 .1 .1 .1 .1 .1 .1 .1 .0))
 one-lines κs a x y s t p q = writes-one p q

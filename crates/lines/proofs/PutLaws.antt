@@ -15,7 +15,7 @@ use Rattle.text.specs.Puts.{Puts, puts-byte, puts-then, lays-puts}
 use Rattle.history.specs.Replies.{Reply}
 use Rattle.slots.specs.Lent.{numbered}
 use Rattle.slots.specs.declared.Answer.{Answer}
-use Rattle.slots.specs.declared.Answer.the-variants.{Granted, Malformed, NoCell, NotOpen, HasWritten, Full, Spent, Circle}
+use Rattle.slots.specs.declared.Answer.the-variants.{Granted, Malformed, NoCell, NotOpen, HasWritten, Full, Spent, Circle, NoPort, PortFull}
 use Rattle.lines.specs.Lines.{line, tail-line}
 use Rattle.lines.specs.Writes.{Starts}
 
@@ -52,7 +52,7 @@ number-put {at} {n} h k a =
 
 -- ---- a line
 
-pub code-small : (a : Answer) → numbered a .code < 8
+pub code-small : (a : Answer) → numbered a .code < 10
 code-small (Granted j) = lit< tt
 code-small Malformed = lit< tt
 code-small NoCell = lit< tt
@@ -61,8 +61,10 @@ code-small HasWritten = lit< tt
 code-small Full = lit< tt
 code-small Spent = lit< tt
 code-small Circle = lit< tt
+code-small NoPort = lit< tt
+code-small PortFull = lit< tt
 
-line-joined : (p : ℕ) (q : Reply) (k j : ℕ) → q .code < 8 → k ≡ q .code → j ≡ q .job
+line-joined : (p : ℕ) (q : Reply) (k j : ℕ) → q .code < 10 → k ≡ q .code → j ≡ q .job
     → ((((decimal p ++ 32 ∷ []) ++ (48 + k) ∷ []) ++ 32 ∷ []) ++ decimal j) ++ 10 ∷ [] ≡ line p q
 unfolding line
 line-joined p q k j h e f =
@@ -71,7 +73,7 @@ line-joined p q k j h e f =
     (ap (λ (c : ℕ). (48 + c) ∷ []) e ∙ sym (decimal-digit (q .code) (omega arith)))
     ∙ ap (λ (x : ℕ). decimal p ++ 32 ∷ (decimal (q .code) ++ 32 ∷ (decimal x ++ 10 ∷ []))) f)
 
-pub puts-line : (p : ℕ) (q : Reply) {at a b : ℕ} {o m n : List ℕ} (k j : ℕ) → q .code < 8 → k ≡ q .code → j ≡ q .job
+pub puts-line : (p : ℕ) (q : Reply) {at a b : ℕ} {o m n : List ℕ} (k j : ℕ) → q .code < 10 → k ≡ q .code → j ≡ q .job
     → Puts at (decimal p) o m a → a + 3 ≤ length m → Puts (a + 3) (decimal j) (set (set (set m a 32) (a + 1) (48 + k)) (a + 2) 32) n b → b < length n
     → Puts at (line p q) o (set n b 10) (b + 1)
 puts-line p q {at} {a} {b} {o} {m} {n} k j small e f x h y l =

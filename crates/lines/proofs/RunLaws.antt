@@ -39,11 +39,11 @@ lines-next : (p : ℕ) (h : Held) (x y : List ℕ) (q : Request) → records x �
 unfolding lines-of
 lines-next p h x y q e = ap (λ (rs : List Request). lines p (answers h rs)) e
 
-pub run-next : {p : ℕ} {h₀ : Held} {input out₀ : List ℕ} {h : Held} {out out′ : List ℕ} {i at at′ : ℕ} {m : Moved} {numbers leads sets : List ℕ}
-    → Run p h₀ input out₀ h out i at → i < length input / 8 → Steps h (request-of (eight input (i * 8))) m numbers leads sets
+pub run-next : {p : ℕ} {h₀ : Held} {input out₀ : List ℕ} {h : Held} {out out′ : List ℕ} {i at at′ : ℕ} {m : Moved} {numbers leads sets ports : List ℕ}
+    → Run p h₀ input out₀ h out i at → i < length input / 8 → Steps h (request-of (eight input (i * 8))) m numbers leads sets ports
     → Puts at (line (p + i) (numbered (m .answer))) out out′ at′ → at′ ≤ at + 44
-    → Run p h₀ input out₀ (lent (m .next) (m .free) numbers leads sets) out′ (i + 1) at′
-run-next {p} {h₀} {input} {out₀} {h} {out} {out′} {i} {at} {at′} {m} {numbers} {leads} {sets} r more s w l =
+    → Run p h₀ input out₀ (lent (m .next) (m .free) numbers leads sets ports) out′ (i + 1) at′
+run-next {p} {h₀} {input} {out₀} {h} {out} {out′} {i} {at} {at′} {m} {numbers} {leads} {sets} {ports} r more s w l =
     let q = request-of (eight input (i * 8)) in
     let on : i * 8 + 8 ≡ (i + 1) * 8 = omega arith in
     let e : records (drop (i * 8) input) ≡ q ∷ records (drop ((i + 1) * 8) input) =
@@ -52,9 +52,9 @@ run-next {p} {h₀} {input} {out₀} {h} {out} {out′} {i} {at} {at′} {m} {nu
     let rest = drop ((i + 1) * 8) input in
     record {
       put =
-          ap (λ (x : List ℕ). x ++ lines-of (p + (i + 1)) (lent (m .next) (m .free) numbers leads sets) rest) (w .front)
-          ∙ append-assoc (take at out) (line (p + i) (numbered (m .answer))) (lines-of (p + (i + 1)) (lent (m .next) (m .free) numbers leads sets) rest)
-          ∙ ap (λ (a : Reply). take at out ++ (line (p + i) a ++ lines-of (p + (i + 1)) (lent (m .next) (m .free) numbers leads sets) rest)) (s .answered)
+          ap (λ (x : List ℕ). x ++ lines-of (p + (i + 1)) (lent (m .next) (m .free) numbers leads sets ports) rest) (w .front)
+          ∙ append-assoc (take at out) (line (p + i) (numbered (m .answer))) (lines-of (p + (i + 1)) (lent (m .next) (m .free) numbers leads sets ports) rest)
+          ∙ ap (λ (a : Reply). take at out ++ (line (p + i) a ++ lines-of (p + (i + 1)) (lent (m .next) (m .free) numbers leads sets ports) rest)) (s .answered)
           ∙ ap (λ (g : Held). take at out ++ (line (p + i) (answer-to h q) ++ lines-of (p + (i + 1)) g rest)) (s .left)
           ∙ ap (λ (n : ℕ). take at out ++ (line (p + i) (answer-to h q) ++ lines-of n (after h q) rest)) k
           ∙ ap (λ (x : List ℕ). take at out ++ x) (sym (lines-next (p + i) h (drop (i * 8) input) rest q e))
@@ -91,13 +91,13 @@ no-lines : (p : ℕ) (h : Held) (x : List ℕ) → records x ≡ [] → lines-of
 unfolding lines-of
 no-lines p h x e = ap (λ (rs : List Request). lines p (answers h rs)) e
 
-pub writes-all : {p : ℕ} {h₀ : Held} {input out₀ : List ℕ} {next free : ℕ} {numbers leads sets out : List ℕ} {i at : ℕ}
-    → Run p h₀ input out₀ (lent next free numbers leads sets) out i at → length input / 8 ≤ i → p < most-place → length input / 8 ≤ length out₀ / 44
+pub writes-all : {p : ℕ} {h₀ : Held} {input out₀ : List ℕ} {next free : ℕ} {numbers leads sets ports out : List ℕ} {i at : ℕ}
+    → Run p h₀ input out₀ (lent next free numbers leads sets ports) out i at → length input / 8 ≤ i → p < most-place → length input / 8 ≤ length out₀ / 44
     → i ≤ length input / 8
-    → Writes p h₀ input out₀ (record { next = next; free = free; bytes = at; room = true }) numbers leads sets out
-writes-all {p} {h₀} {input} {out₀} {next} {free} {numbers} {leads} {sets} {out} {i} {at} r done place fit most =
+    → Writes p h₀ input out₀ (record { next = next; free = free; bytes = at; room = true }) numbers leads sets ports out
+writes-all {p} {h₀} {input} {out₀} {next} {free} {numbers} {leads} {sets} {ports} {out} {i} {at} r done place fit most =
     let t = is-roomy p input out₀ place fit in
-    let h = lent next free numbers leads sets in
+    let h = lent next free numbers leads sets ports in
     let none : records (drop (i * 8) input) ≡ [] = no-record (drop (i * 8) input) (simp length-drop (omega arith)) in
     let bytes : take at out ≡ lines-of p h₀ input =
     sym (append-nil (take at out)) ∙ ap (λ (x : List ℕ). take at out ++ x) (sym (no-lines (p + i) h (drop (i * 8) input) none)) ∙ r .put in
@@ -108,14 +108,14 @@ writes-all {p} {h₀} {input} {out₀} {next} {free} {numbers} {leads} {sets} {o
       left = rw t (ap (λ (rs : List Request). after-all h rs) (sym none) ∙ r .left);
     }
 
-pub writes-none : {p : ℕ} {input out : List ℕ} (next free : ℕ) (numbers leads sets : List ℕ) → roomy p input out ≡ false
-    → Writes p (lent next free numbers leads sets) input out (record { next = next; free = free; bytes = 0; room = false }) numbers leads sets out
-writes-none next free numbers leads sets f = record { room = sym f; put = starts-none f; left = rw f }
+pub writes-none : {p : ℕ} {input out : List ℕ} (next free : ℕ) (numbers leads sets ports : List ℕ) → roomy p input out ≡ false
+    → Writes p (lent next free numbers leads sets ports) input out (record { next = next; free = free; bytes = 0; room = false }) numbers leads sets ports out
+writes-none next free numbers leads sets ports f = record { room = sym f; put = starts-none f; left = rw f }
 
-pub writes-no-place : {p : ℕ} {input out : List ℕ} (next free : ℕ) (numbers leads sets : List ℕ) → most-place ≤ p
-    → Writes p (lent next free numbers leads sets) input out (record { next = next; free = free; bytes = 0; room = false }) numbers leads sets out
-writes-no-place {p} {input} {out} next free numbers leads sets h = writes-none next free numbers leads sets (no-place p input out h)
+pub writes-no-place : {p : ℕ} {input out : List ℕ} (next free : ℕ) (numbers leads sets ports : List ℕ) → most-place ≤ p
+    → Writes p (lent next free numbers leads sets ports) input out (record { next = next; free = free; bytes = 0; room = false }) numbers leads sets ports out
+writes-no-place {p} {input} {out} next free numbers leads sets ports h = writes-none next free numbers leads sets ports (no-place p input out h)
 
-pub writes-no-room : {p : ℕ} {input out : List ℕ} (next free : ℕ) (numbers leads sets : List ℕ) → length out / 44 < length input / 8
-    → Writes p (lent next free numbers leads sets) input out (record { next = next; free = free; bytes = 0; room = false }) numbers leads sets out
-writes-no-room {p} {input} {out} next free numbers leads sets h = writes-none next free numbers leads sets (no-room p input out h)
+pub writes-no-room : {p : ℕ} {input out : List ℕ} (next free : ℕ) (numbers leads sets ports : List ℕ) → length out / 44 < length input / 8
+    → Writes p (lent next free numbers leads sets ports) input out (record { next = next; free = free; bytes = 0; room = false }) numbers leads sets ports out
+writes-no-room {p} {input} {out} next free numbers leads sets ports h = writes-none next free numbers leads sets ports (no-room p input out h)

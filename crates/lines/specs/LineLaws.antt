@@ -73,9 +73,9 @@ written-one r s a b c d =
     ∙ ap (λ (x : ℕ). record { next = s .next; free = s .free; bytes = x; room = r .room }) c
     ∙ ap (λ (x : Bool). record { next = s .next; free = s .free; bytes = s .bytes; room = x }) d
 
-pub writes-one : {p : ℕ} {h : Held} {input out : List ℕ} {r s : Written} {numbers leads sets x numbers′ leads′ sets′ y : List ℕ}
-    → Writes p h input out r numbers leads sets x → Writes p h input out s numbers′ leads′ sets′ y
-    → (r ≡ s) × (numbers ≡ numbers′) × (leads ≡ leads′) × (sets ≡ sets′) × (x ≡ y)
+pub writes-one : {p : ℕ} {h : Held} {input out : List ℕ} {r s : Written} {numbers leads sets ports x numbers′ leads′ sets′ ports′ y : List ℕ}
+    → Writes p h input out r numbers leads sets ports x → Writes p h input out s numbers′ leads′ sets′ ports′ y
+    → (r ≡ s) × (numbers ≡ numbers′) × (leads ≡ leads′) × (sets ≡ sets′) × (ports ≡ ports′) × (x ≡ y)
 writes-one {r = r} {s = s} a b =
     let e = a .left ∙ sym (b .left) in
     let one = starts-one (a .put) (b .put) in
@@ -84,5 +84,6 @@ writes-one {r = r} {s = s} a b =
       ap (λ (h : Held). h .numbers) e,
       ap (λ (h : Held). h .leads) e,
       ap (λ (h : Held). h .sets) e,
+      ap (λ (h : Held). h .ports) e,
       one .0,
     )

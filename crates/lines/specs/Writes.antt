@@ -36,7 +36,7 @@ pub roomy-place : (p : ℕ) (input out : List ℕ) → roomy p input out ≡ tru
 unfolding roomy
 roomy-place p input out t = ltb-true p most-place (and-true-left (ltb p most-place) (leb (length input / 8) (length out / 44)) t)
 
-pub record Writes (p : ℕ) (h : Held) (input out : List ℕ) (r : Written) (numbers leads sets out′ : List ℕ) : Type 0 where
+pub record Writes (p : ℕ) (h : Held) (input out : List ℕ) (r : Written) (numbers leads sets ports out′ : List ℕ) : Type 0 where
   pub room : r .room ≡ roomy p input out
   pub put : Starts (roomy p input out) (lines-of p h input) out out′ (r .bytes)
-  pub left : lent (r .next) (r .free) numbers leads sets ≡ cond (roomy p input out) (after-all h (records input)) h
+  pub left : lent (r .next) (r .free) numbers leads sets ports ≡ cond (roomy p input out) (after-all h (records input)) h

@@ -86,10 +86,11 @@ pub fn lines(
     numbers: &mut [u32; 32],
     leads: &mut [u32; 32],
     sets: &mut [u64; 512],
+    ports: &mut [u32; 3],
     input: &[u8],
     out: &mut [u8],
 ) -> Written
-    ensures { λ r. ⌜ Writes place (lent next free (now (numbers .entry)) (now (leads .entry)) (now (sets .entry))) (now (input .entry)) (now (out .entry)) r (now (numbers .exit)) (now (leads .exit)) (now (sets .exit)) (now (out .exit)) ⌝ }
+    ensures { λ r. ⌜ Writes place (lent next free (now (numbers .entry)) (now (leads .entry)) (now (sets .entry)) (now (ports .entry))) (now (input .entry)) (now (out .entry)) r (now (numbers .exit)) (now (leads .exit)) (now (sets .exit)) (now (ports .exit)) (now (out .exit)) ⌝ }
 {
     let count = input.len() / 8;
     if 4611686018427387904 <= place {
@@ -124,7 +125,7 @@ pub fn lines(
             input[from + 6],
             input[from + 7],
         ];
-        let m = slots::step_in_place(now_next, now_free, numbers, leads, sets, request);
+        let m = slots::step_in_place(now_next, now_free, numbers, leads, sets, ports, request);
         now_next = m.next;
         now_free = m.free;
         let answer = m.answer;

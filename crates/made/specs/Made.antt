@@ -10,4 +10,4 @@ use Rattle.held.specs.Cases.{held-of, MadeUp, made-up-next, made-up-table}
 -- every made-up state of the table leaves the next state as written, to the last word
 pub made-up-states : (m : MadeUp) → m ∈ made-up-table → after (held-of (m .before)) (m .asked) ≡ held-of (m .left)
 unfolding made-up-next
-made-up-states m = rows made-up-next (λ m. held-of (m .left)) (refl, (refl, (refl, (refl, (refl, (refl, (refl, (refl, (refl, (refl, (refl, (refl, (refl, (refl, (refl, (refl, (refl, (refl, (refl, (refl, (refl, (refl, (refl, tt)))))))))))))))))))))))
+made-up-states m = rows made-up-next (λ m. held-of (m .left)) (refl, (refl, (refl, (refl, (refl, (refl, (refl, (refl, (refl, (refl, (refl, (refl, (refl, (refl, (refl, (refl, (refl, (refl, (refl, (refl, (refl, (refl, (refl, (refl, (refl, (refl, (refl, (refl, tt))))))))))))))))))))))))))))

@@ -35,8 +35,10 @@ fn bump(list: &mut List, i: usize, x: u64) {
 }
 
 // A list has its bytes at LENGTH, eight for each of its numbers, which stand from place 0 on. That of a history, whose numbers are records, has the requests that
-// it came from at ASKS and on, how many there were, and the first number; and the counts stand at its end.
+// it came from at ASKS and on, the ports of its opens at PORTS and on, how many requests there were, and the first number; and the counts stand at its end.
 const ASKS: usize = 2048;
+
+const PORTS: usize = 4096;
 
 const LENGTH: usize = 4200;
 
@@ -104,6 +106,29 @@ fn count(h: &List, n: usize, such: u64) -> u64 {
     let mut i: usize = 0;
     while i < n {
         sum = std::num::wrapping_add_u64(sum, is_such(h, n, i, such) as u64);
+        i += 1;
+    }
+    sum
+}
+
+// A log does not hold ports: that of the open at place i of the records stands apart, 32 to a number.
+fn port_at(h: &List, i: usize) -> u64 {
+    at(h, PORTS | i / 32) >> (i % 32 * 2) & 3
+}
+
+fn put_port(h: &mut List, i: usize, port: u64) {
+    let old = port_at(h, i);
+    let new = at(h, PORTS | i / 32) ^ (old ^ port % 4) << (i % 32 * 2);
+    put(h, PORTS | i / 32, new);
+}
+
+// How many jobs of a port are open?
+fn crowd(h: &List, n: usize, port: u64) -> u64 {
+    let mut sum: u64 = 0;
+    let mut i: usize = 0;
+    while i < n {
+        let here = is_such(h, n, i, OPEN) & (port_at(h, i) == port);
+        sum = std::num::wrapping_add_u64(sum, here as u64);
         i += 1;
     }
     sum
@@ -206,13 +231,19 @@ fn is_malformed(record: u64) -> bool {
     (kind == 0) | (7 < kind) | (record / 256 % 256 != 0)
 }
 
-fn decide_open(h: &List, n: usize) -> u64 {
+fn decide_open(h: &List, n: usize, port: u64) -> u64 {
     let number = std::num::wrapping_add_u64(at(h, FIRST), count(h, n, OPENED));
     if 4294967295 < number {
         return 6;
     }
+    if 2 < port {
+        return 8;
+    }
     if 32 <= count(h, n, OPEN) {
         return 5;
+    }
+    if 16 <= crowd(h, n, port) {
+        return 9;
     }
     number << 32
 }
@@ -257,7 +288,7 @@ fn decide(h: &List, asked: u64) -> u64 {
         return 1;
     }
     if asked % 256 == 1 {
-        return decide_open(h, size(h));
+        return decide_open(h, size(h), asked >> 32);
     }
     let step = step_of(asked);
     let code = refusal(step, marks_of(h, size(h), step >> 32));
@@ -267,8 +298,8 @@ fn decide(h: &List, asked: u64) -> u64 {
     decide_job(h, step)
 }
 
-// ---- counts. A row has 16 places: how many answers differed, how many there were, how many had each code, of which those from 11 on stand for 1 to 8, in the place
-// of an 8 how many replies were marked, how many histories or logs there were, and how many publishes and how many adds were granted.
+// ---- counts. A row has 16 places: how many answers differed, how many there were, how many had each code, of which those from 11 on stand for 1 to 8, how many replies were
+// marked, how many histories there were, and how many publishes and how many adds were granted. Of orders, which have no 9, the logs are counted in its place.
 
 // The rows, by their first place, as the report has them line by line. A row of each shape comes first, and then what they sum to; the last is what the others sum to.
 const COUNTS: usize = 4352;
@@ -290,13 +321,15 @@ const STREAM_LISTS: u64 = 4544;
 const REST: u64 = 4560;
 
 // What is to be counted is one number. Its bits: those below 16 are one more at each such place of the row; from 16 on the row.
-const BEGIN: u64 = 2048;
+const BEGIN: u64 = 8192;
+
+const LOGS: u64 = 2048;
 
 // Two answers, and what is wanted, if that is not ALL.
 fn compared(row: u64, mine: u64, theirs: u64, want: u64) -> u64 {
     let answer = mine & !MARK;
     let differ = (answer != theirs) | ((want != ALL) & (answer != want));
-    row << 16 | differ as u64 | 2 | 4 << (mine % 256 % 10) | (mine & MARK) << 2
+    row << 16 | differ as u64 | 2 | 4 << (mine % 256 % 10) | (mine & MARK) << 4
 }
 
 fn tally_in(h: &mut List, row: usize, what: u64) {
@@ -374,12 +407,12 @@ fn arbiter_says(h: &List) -> u64 {
     number_of(&said[n..m])
 }
 
-// An empty history begins, with its first number.
-fn begin(h: &mut List, first: u64, row: u64) {
+// An empty history or log begins, with its first number, and is counted.
+fn begin(h: &mut List, first: u64, what: u64) {
     put(h, LENGTH, 0);
     put(h, ASKED, 0);
     put(h, FIRST, first);
-    tally(h, row << 16 | BEGIN);
+    tally(h, what);
 }
 
 // What is kept of a granted request: a step, also that of a publish, as it was asked, and anything else with cell 0 and the number of the reply.
@@ -390,16 +423,19 @@ fn kept(asked: u64, reply: u64) -> u64 {
     asked % 256 | reply
 }
 
-// What is granted is kept, of a publish two records: the write, and the end. What is to be counted of it beside the reply: kinds 6 and 7 have the places 12 and 13.
+// What is granted is kept, of an open the port too, of a publish two records: the write, and the end. What is to be counted of it beside the reply: kinds 6 and 7 have the places 14 and 15.
 fn keep(h: &mut List, asked: u64, reply: u64) -> u64 {
     if reply % 256 != 0 {
         return 0;
+    }
+    if asked % 256 == 1 {
+        put_port(h, size(h), asked >> 32);
     }
     add(h, kept(asked, reply));
     if asked % 256 == 6 {
         add(h, reply | 4);
     }
-    64 << (asked % 8) & 12288
+    256 << (asked % 8) & 49152
 }
 
 // The arbiter's reply to one request more.
@@ -810,14 +846,14 @@ fn add_records(h: &mut List, fields: &List) {
     fill(h, record(fields, 1, 0), step, run_of(fields, 4));
 }
 
-// A line that asks, or one of the arbiter's slots, whose `row`, `cells` and `left` have no second telling. One that cannot be read is asked as a row, and differs.
+// A line that asks, or one of the arbiter's slots, whose `row`, `cells`, `port` and `left` have no second telling. One that cannot be read is asked as a row, and differs.
 fn answer_line(h: &mut List, fields: &List) {
     match at(fields, 0) {
         // order
         0x6f72646572 => try_order(h, fields),
         // list
         0x6c697374 => try_room(h, fields),
-        0x726f77 | 0x63656c6c73 | 0x6c656674 => {}
+        0x726f77 | 0x63656c6c73 | 0x706f7274 | 0x6c656674 => {}
         _ => try_row(h, fields),
     }
 }
@@ -826,11 +862,11 @@ fn answer_line(h: &mut List, fields: &List) {
 fn tell_line(h: &mut List, fields: &List) {
     match at(fields, 0) {
         // history
-        0x686973746f7279 => begin(h, part(fields, 1, 0), HISTORIES),
+        0x686973746f7279 => begin(h, part(fields, 1, 0), HISTORIES << 16 | BEGIN),
         // state, full
         0x7374617465 | 0x66756c6c => put(h, FIRST, ALL),
         // log
-        0x6c6f67 => begin(h, 0, ORDERS),
+        0x6c6f67 => begin(h, 0, ORDERS << 16 | LOGS),
         // tail
         0x7461696c => bump(h, LENGTH, part(fields, 1, 0)),
         // record
@@ -918,6 +954,17 @@ fn half_of(k: u64, job: u64) -> u64 {
     job
 }
 
+// Whose request: that of a job, or an open of a port. The three ports are named alike, and now and then 3, which is none; where the numbers run out, mostly 0 and 1.
+fn whose(k: u64, kind: u64, job: u64, r: u64) -> u64 {
+    if kind != 1 {
+        return job;
+    }
+    if k == 5 {
+        return r % 128 / 60;
+    }
+    r % 128 / 42
+}
+
 // Among the bad requests, every second has two bits changed.
 fn request(h: &List, k: u64, r: u64) -> u64 {
     let job = job_for(h, size(h), r >> 40);
@@ -925,7 +972,11 @@ fn request(h: &List, k: u64, r: u64) -> u64 {
     let kind = (shape >> (r % 7 * 4 + half_of(k, job) % 2 * 28)) % 16;
     let cell = (r >> 8) & (shape >> 56);
     let bad = ((k == 2) & (r >> 16 & 1 == 0)) as u64;
-    kind ^ cell << 16 ^ job << 32 ^ bad << (r >> 20) % 64 ^ bad << (r >> 26) % 64
+    kind
+        ^ cell << 16
+        ^ whose(k, kind, job, r >> 33) << 32
+        ^ bad << (r >> 20) % 64
+        ^ bad << (r >> 26) % 64
 }
 
 // 256 requests from a fresh state, of a shape.
@@ -933,7 +984,7 @@ fn window(h: &mut List, k: u64, seed: u64) {
     let row = SHAPES + k % 6 * 16;
     let mut r = seed;
     let mut i: u64 = 0;
-    begin(h, first_number(k, seed), row);
+    begin(h, first_number(k, seed), row << 16 | BEGIN);
     while i < 256 {
         r = shifted(r);
         ask(h, row, request(h, k, r), ALL);
@@ -1019,10 +1070,10 @@ fn say_piece(h: &List, place: usize, byte: u8) {
     io::write_all(libc::STDOUT_FILENO, &one);
 }
 
-// The place of the next count: each line has a row.
+// The place of the next count: each line has a row, and after the last place of a row comes its first.
 fn next_count(place: usize, byte: u8) -> usize {
     match byte {
-        b'#' => std::num::wrapping_add_usize(place, 1),
+        b'#' => place ^ place & 15 | std::num::wrapping_add_usize(place, 1) & 15,
         b'\n' => std::num::wrapping_add_usize(place | 15, 1),
         _ => place,
     }
@@ -1043,15 +1094,15 @@ fn say_all(h: &List, words: &[u8]) {
 fn report(h: &List) {
     say_all(
         h,
-        b"seed 1981; codes 0 to 7, and of 7 those through ended jobs; of orders and lists, codes 0 and 11 to 18
-few cells: # differ of # requests: # # # # # # # #, #; # histories, # publishes and # adds granted
-one job open throughout: # differ of # requests: # # # # # # # #, #; # histories, # publishes and # adds granted
-bad requests: # differ of # requests: # # # # # # # #, #; # histories, # publishes and # adds granted
-abandons: # differ of # requests: # # # # # # # #, #; # histories, # publishes and # adds granted
-slots full: # differ of # requests: # # # # # # # #, #; # histories, # publishes and # adds granted
-numbers running out: # differ of # requests: # # # # # # # #, #; # histories, # publishes and # adds granted
-all streams: # differ of # requests: # # # # # # # #, #; # histories, # publishes and # adds granted
-tried histories: # differ of # requests: # # # # # # # #, #; # histories, # publishes and # adds granted
+        b"seed 1981; codes 0 to 9, and of 7 those through ended jobs; of orders and lists, codes 0 and 11 to 18
+few cells: # differ of # requests: # # # # # # # # # #, #; # histories, # publishes and # adds granted
+one job open throughout: # differ of # requests: # # # # # # # # # #, #; # histories, # publishes and # adds granted
+bad requests: # differ of # requests: # # # # # # # # # #, #; # histories, # publishes and # adds granted
+abandons: # differ of # requests: # # # # # # # # # #, #; # histories, # publishes and # adds granted
+slots full: # differ of # requests: # # # # # # # # # #, #; # histories, # publishes and # adds granted
+numbers running out: # differ of # requests: # # # # # # # # # #, #; # histories, # publishes and # adds granted
+all streams: # differ of # requests: # # # # # # # # # #, #; # histories, # publishes and # adds granted
+tried histories: # differ of # requests: # # # # # # # # # #, #; # histories, # publishes and # adds granted
 tried orders: # differ of # verdicts: # # # # # # # # #; # logs
 tried lists: # differ of # answers: # # # # # # # # #
 orders of the streams: # differ of # verdicts: # # # # # # # # #

@@ -4,7 +4,8 @@
 -- Six fail a P case. Three pass all of them, so each fails a history of our own (`own-cases` of Cases).
 --
 -- And of any arbiter whatever, with states of any sort, that answers as the full history does (`Exact`): it does not refuse every step (`grants-some`), nor let
--- every step through (`refuses-some`), its state moves at a step (`moves-at-a-step`), and moves truly at a job's later steps too (`later-steps-count`).
+-- every step through (`refuses-some`), its state moves at a step (`moves-at-a-step`), and moves truly at a job's later steps too (`later-steps-count`); what it holds tells the
+-- ports of the jobs apart (`ports-count`).
 -- Assumes nothing.
 use mathlib.Core.Path.{_≡_, refl, sym, ap, _∙_}
 use mathlib.Core.Bool.{Bool, true, false, not, _&&_, _||_}
@@ -18,7 +19,7 @@ use Rattle.history.specs.Events.{Kind, read, write, Deed, does, opening, ending
 use Rattle.history.specs.Replies.{Request, Reply, a-step, want, replies, history-of}
 use Rattle.history.specs.Memory.{Footprint, Memory, fresh, meets, step-in, open-in, blank, fold, Rule, move-all, held, held-replies}
 use Rattle.history.specs.Arbiters.{Arbiter, answers, left, Exact}
-use Rattle.history.specs.Cases.{open-one, reads, writes, granted, refused, Case, requests-of, replies-of, Outcome, expected, computed, p1, p2, p3, p4, p5, p6, p7, p8, p-table, past-of-ended, leads-of-ended, chain-abandoned, rows}
+use Rattle.history.specs.Cases.{open-at, open-one, reads, writes, granted, refused, Case, requests-of, replies-of, Outcome, expected, computed, p1, p2, p3, p4, p5, p6, p7, p8, p-table, past-of-ended, leads-of-ended, chain-abandoned, rows}
 
 -- ---- the builds
 
@@ -42,10 +43,10 @@ ends-by f = record { at-open = open-by; at-step = does-in; at-end = end-by f; at
 
 -- a memory with other pasts, with other leads
 abbrev with-past : Memory → (ℕ → Footprint) → Memory
-with-past m f = record { next = m .next; jobs = m .jobs; own = m .own; past = f; leads = m .leads }
+with-past m f = record { next = m .next; jobs = m .jobs; own = m .own; past = f; leads = m .leads; port = m .port }
 
 abbrev with-leads : Memory → (ℕ → ℕ → Bool) → Memory
-with-leads m f = record { next = m .next; jobs = m .jobs; own = m .own; past = m .past; leads = f }
+with-leads m f = record { next = m .next; jobs = m .jobs; own = m .own; past = m .past; leads = f; port = m .port }
 
 -- a step of j by which the jobs that pass the test t come to lead to it
 abbrev step-by : (Memory → Deed → ℕ → ℕ → ℕ → Bool) → Memory → Kind → ℕ → ℕ → Memory
@@ -264,11 +265,16 @@ is-step ending = false
 abbrev pub stepped : History → List ℕ
 stepped h = map (λ (s : Step). s .job) (only (λ (s : Step). is-step (s .deed)) (all-steps h))
 
--- the code at a place; 8, which is no code, where there is none
+-- the code at a place; 10, which is no code, where there is none
 abbrev code-at : ℕ → List Reply → ℕ
-code-at n [] = 8
+code-at n [] = 10
 code-at zero (x ∷ l) = x .code
 code-at (suc n) (x ∷ l) = code-at n l
+
+-- the same request n times
+abbrev times : ℕ → Request → List Request
+times zero r = []
+times (suc n) r = r ∷ times n r
 
 module _ (a : Arbiter) (exact : Exact a) where
   -- the code that the arbiter gives at a place is the full history's
@@ -310,3 +316,16 @@ module _ (a : Arbiter) (exact : Exact a) where
       let q : a .answer (left a (a .fresh 1) before) (writes 1 6) .code ≡ 0 = said 4 (before ++ writes 1 6 ∷ []) in
       let z : _≡_ {A = ℕ} 7 0 = sym p ∙ (ap (λ (x : Reply). x .code) (for-show 1 before write (writes 2 6) (writes 1 6) refl tt) ∙ q) in
       omega arith
+
+  -- opens of different ports do not leave the same state: else after 16 opens of port 0 the next of that port would be answered as after 16 opens of port 1
+  pub ports-count : ((s : a .State) → a .next s (open-at 0) ≡ a .next s (open-at 1)) → ⊥
+  unfolding computed
+  ports-count together =
+      let p : a .answer (left a (a .fresh 1) (times 16 (open-at 0))) (open-at 0) .code ≡ 9 = said 16 (times 16 (open-at 0) ++ open-at 0 ∷ []) in
+      let q : a .answer (left a (a .fresh 1) (times 16 (open-at 1))) (open-at 0) .code ≡ 0 = said 16 (times 16 (open-at 1) ++ open-at 0 ∷ []) in
+      let z : _≡_ {A = ℕ} 9 0 = sym p ∙ (ap (λ (x : a .State). a .answer x (open-at 0) .code) (same-left 16 (a .fresh 1)) ∙ q) in
+      omega arith
+    where
+      same-left : (n : ℕ) (s : a .State) → left a s (times n (open-at 0)) ≡ left a s (times n (open-at 1))
+      same-left zero s = refl
+      same-left (suc n) s = ap (λ (x : a .State). left a x (times n (open-at 0))) (together s) ∙ same-left n (a .next s (open-at 1))

@@ -99,7 +99,7 @@ module _ {w from : ℕ} {p : ℕ → Bool} where
 -- the slot's mark is struck, and then those lead to it that are open and have a past. It counts as free itself, and so it leads nowhere
 opened-leads : {leaders : ℕ} {leads₁ leads₂ : List ℕ} (h : Held) (s : ℕ) → h .free < 2 ^ 32 → s < 32
     → leaders ≡ mask-of 32 (λ i. bit (2 ^ 32 - 1 - bitOr (h .free) (1 * 2 ^ s % 2 ^ 32)) i && has-past (sets-only (h .sets)) i)
-    → leads₁ ≡ struck (h .leads) s → leads₂ ≡ gained leads₁ (bit leaders) (2 ^ s) → leads₂ ≡ opened-at h s .leads
+    → leads₁ ≡ struck (h .leads) s → leads₂ ≡ gained leads₁ (bit leaders) (2 ^ s) → leads₂ ≡ opened-at h 0 s .leads
 unfolding opened-at open-at leads-at has-past word-at
 opened-leads {leaders} {leads₁} h s fits inside eb e₁ e₂ =
     e₂ ∙ tab-same 32 (gained-row leads₁ (bit leaders) (2 ^ s)) _ (λ i q.

@@ -250,9 +250,9 @@ joined-law {ws} sets s w v =
     go false k = sym (or-false (bit x k))
 
 -- the rest stays
-down-next : (h : Held) (s : ℕ) (cs : List ℕ) → (put-down h s cs .next ≡ h .next) × (put-down h s cs .free ≡ h .free) × (put-down h s cs .numbers ≡ h .numbers)
+down-next : (h : Held) (s : ℕ) (cs : List ℕ) → (put-down h s cs .next ≡ h .next) × (put-down h s cs .free ≡ h .free) × (put-down h s cs .numbers ≡ h .numbers) × (put-down h s cs .ports ≡ h .ports)
 unfolding stepped-at
-down-next h s [] = (refl, refl, refl)
+down-next h s [] = (refl, refl, refl, refl)
 down-next h s (c ∷ cs) = down-next (stepped-at h write s c) s cs
 
 -- as many rows and words as there were
@@ -272,7 +272,7 @@ pub puts-down : {ws leads′ sets′ : List ℕ} (touching free : ℕ) (leads se
     → links-of free leads′ sets′ ≡ put-down (links-of free leads sets) s (named ws)
 unfolding leads-at
 puts-down {ws} {leads′} {sets′} touching free leads sets s hs v ll ls et el es =
-    λ i. record { next = sym (n .0) i; free = sym (n .1) i; numbers = sym (n .2) i; leads = same-leads i; sets = same-sets i }
+    λ i. record { next = sym (n .0) i; free = sym (n .1) i; numbers = sym (n .2) i; leads = same-leads i; sets = same-sets i; ports = sym (n .3) i }
   where
     h : Held
     h = links-of free leads sets
@@ -280,7 +280,7 @@ puts-down {ws} {leads′} {sets′} touching free leads sets s hs v ll ls et el 
     d : Held
     d = put-down h s (named ws)
 
-    n : (d .next ≡ 0) × (d .free ≡ free) × (d .numbers ≡ [])
+    n : (d .next ≡ 0) × (d .free ≡ free) × (d .numbers ≡ []) × (d .ports ≡ [])
     n = down-next h s (named ws)
 
     long : (length (d .leads) ≡ 32) × (length (d .sets) ≡ 512)

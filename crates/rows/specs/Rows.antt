@@ -20,9 +20,9 @@ use Rattle.rows.specs.declared.Deed.the-variants.{Read, Write, Add}
 
 -- ---- what is lent, and what is left of it
 
--- the state whose rows are lent. No function here looks at the next number, and some look at no numbers
+-- the state whose rows are lent. No function here looks at the next number or at the ports, and some look at no numbers
 abbrev pub rows-of : ℕ → List ℕ → List ℕ → List ℕ → Held
-rows-of free numbers leads sets = record { next = 0; free = free; numbers = numbers; leads = leads; sets = sets }
+rows-of free numbers leads sets = record { next = 0; free = free; numbers = numbers; leads = leads; sets = sets; ports = [] }
 
 abbrev pub links-of : ℕ → List ℕ → List ℕ → Held
 links-of free leads sets = rows-of free [] leads sets
@@ -36,11 +36,11 @@ kind-of Read = read
 kind-of Write = write
 kind-of Add = add
 
--- what an open of slot s leaves: which slots are free, the leads and the sets
+-- what an open of slot s leaves: which slots are free, the leads and the sets, for a job of whatever port
 pub record Opens (h : Held) (s free : ℕ) (leads sets : List ℕ) : Type 0 where
-  pub left-free : free ≡ opened-at h s .free
-  pub left-leads : leads ≡ opened-at h s .leads
-  pub left-sets : sets ≡ opened-at h s .sets
+  pub left-free : free ≡ opened-at h 0 s .free
+  pub left-leads : leads ≡ opened-at h 0 s .leads
+  pub left-sets : sets ≡ opened-at h 0 s .sets
 
 -- what the writes of cells leave. They are refused where the slot would lead to itself
 pub record Writes (h : Held) (s : ℕ) (cs : List ℕ) (refused : Bool) (leads sets : List ℕ) : Type 0 where

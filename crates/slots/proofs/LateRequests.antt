@@ -33,15 +33,15 @@ reply-at h q n = record { code = n; job = cond (eqb n 0) (job-of (h .next) (want
 abbrev state-at : Held → Request → ℕ → Held
 state-at h q n = cond (eqb n 0) (moved h (want (late-kind (q .kind))) (q .job) (q .cell)) h
 
-lates-by : {h : Held} {r : Moved} {numbers leads sets : List ℕ} (q : Request) (n : ℕ) → code-of (untested (facts h)) (in-profile q) ≡ n → numbered (r .answer) ≡ reply-at h q n
-    → lent (r .next) (r .free) numbers leads sets ≡ state-at h q n → Lates h (asks q) r numbers leads sets
+lates-by : {h : Held} {r : Moved} {numbers leads sets ports : List ℕ} (q : Request) (n : ℕ) → code-of (untested (facts h)) (in-profile q) ≡ n → numbered (r .answer) ≡ reply-at h q n
+    → lent (r .next) (r .free) numbers leads sets ports ≡ state-at h q n → Lates h (asks q) r numbers leads sets ports
 unfolding late-answer late-next reply-of facts
 lates-by {h} q n e a l = record { answered = a ∙ ap (reply-at h q) (sym e); left = l ∙ ap (state-at h q) (sym e) }
 
 -- for a code that is not 0 the second and third equations compute
 lates-refused : {h : Held} {r : Moved} {a : Answer} (q : Request) (n : ℕ) → code-of (untested (facts h)) (in-profile q) ≡ n → numbered a ≡ reply-at h q n → h ≡ state-at h q n → Refused h a r
-    → Lates h (asks q) r (h .numbers) (h .leads) (h .sets)
-lates-refused q n e a l f = lates-by q n e (ap numbered (f .2) ∙ a) (lent-same (f .0) (f .1) refl refl refl ∙ l)
+    → Lates h (asks q) r (h .numbers) (h .leads) (h .sets) (h .ports)
+lates-refused q n e a l f = lates-by q n e (ap numbered (f .2) ∙ a) (lent-same (f .0) (f .1) refl refl refl refl ∙ l)
 
 -- ---- a request of eight bytes
 
@@ -50,37 +50,37 @@ abbrev of-kind : List ℕ → ℕ → Request
 of-kind b n = record { kind = n; byte1 = 0; cell = request-of b .cell; job = request-of b .job }
 
 module _ {h : Held} {r : Moved} (b : List ℕ) where
-  pub lates-byte : (getD b 1 0 ≡ 0 → ⊥) → Refused h Malformed r → Lates h (asks (request-of b)) r (h .numbers) (h .leads) (h .sets)
+  pub lates-byte : (getD b 1 0 ≡ 0 → ⊥) → Refused h Malformed r → Lates h (asks (request-of b)) r (h .numbers) (h .leads) (h .sets) (h .ports)
   unfolding code-of request-of
   lates-byte ne = lates-refused (request-of b) 1 (rw (ne-eqb (getD b 1 0) 0 ne) refl) refl refl
 
   module _ (z : getD b 1 0 ≡ 0) where
     -- the kind is none of the three, as the last arm of a match says it
     pub lates-kind : ((Unit {0} × (getD b 0 0 ≡ 1 → ⊥)) × (getD b 0 0 ≡ 2 → ⊥)) × (getD b 0 0 ≡ 5 → ⊥)
-        → Refused h Malformed r → Lates h (asks (request-of b)) r (h .numbers) (h .leads) (h .sets)
+        → Refused h Malformed r → Lates h (asks (request-of b)) r (h .numbers) (h .leads) (h .sets) (h .ports)
     unfolding code-of request-of want tests
     lates-kind n =
         let k = getD b 0 0 in
         lates-refused (request-of b) 1 (rw (eq-eqb (getD b 1 0) 0 z, ne-eqb k 1 (n .0 .0 .1), ne-eqb k 2 (n .0 .1), ne-eqb k 5 (n .1)) refl) refl refl
 
-    module _ {numbers leads sets : List ℕ} where
+    module _ {numbers leads sets ports : List ℕ} where
       -- a well-formed request is that of its kind
-      as-kind : {n : ℕ} → getD b 0 0 ≡ n → Lates h (asks (of-kind b n)) r numbers leads sets → Lates h (asks (request-of b)) r numbers leads sets
+      as-kind : {n : ℕ} → getD b 0 0 ≡ n → Lates h (asks (of-kind b n)) r numbers leads sets ports → Lates h (asks (request-of b)) r numbers leads sets ports
       unfolding request-of
-      as-kind k = subst (λ (q : Request). Lates h (asks q) r numbers leads sets) (λ i. record { kind = sym k i; byte1 = sym z i; cell = request-of b .cell; job = request-of b .job })
+      as-kind k = subst (λ (q : Request). Lates h (asks q) r numbers leads sets ports) (λ i. record { kind = sym k i; byte1 = sym z i; cell = request-of b .cell; job = request-of b .job })
 
-      pub lates-open : getD b 0 0 ≡ 1 → Does h an-open 0 0 r numbers leads sets → Lates h (asks (request-of b)) r numbers leads sets
+      pub lates-open : {j : ℕ} → getD b 0 0 ≡ 1 → j ≡ request-of b .job → Does h an-open j 0 r numbers leads sets ports → Lates h (asks (request-of b)) r numbers leads sets ports
       unfolding late-answer late-next reply-of code-of want tests code-for facts job-of moved
-      lates-open k d = as-kind k (record { answered = d .answered; left = d .left })
+      lates-open k ej d = as-kind k (let e = subst (λ (j : ℕ). Does h an-open j 0 r numbers leads sets ports) ej d in record { answered = e .answered; left = e .left })
 
-      pub lates-read : {j c : ℕ} → getD b 0 0 ≡ 2 → j ≡ request-of b .job → c ≡ request-of b .cell → Asks h false read j c r numbers leads sets
-          → Lates h (asks (request-of b)) r numbers leads sets
+      pub lates-read : {j c : ℕ} → getD b 0 0 ≡ 2 → j ≡ request-of b .job → c ≡ request-of b .cell → Asks h false read j c r numbers leads sets ports
+          → Lates h (asks (request-of b)) r numbers leads sets ports
       unfolding late-answer late-next reply-of code-of want tests code-asked facts job-of moved
-      lates-read k ej ec d = as-kind k (let e = subst₂ (λ (j c : ℕ). Asks h false read j c r numbers leads sets) ej ec d in record { answered = e .answered; left = e .left })
+      lates-read k ej ec d = as-kind k (let e = subst₂ (λ (j c : ℕ). Asks h false read j c r numbers leads sets ports) ej ec d in record { answered = e .answered; left = e .left })
 
-      pub lates-abandon : {j : ℕ} → getD b 0 0 ≡ 5 → j ≡ request-of b .job → Does h an-abandon j 0 r numbers leads sets → Lates h (asks (request-of b)) r numbers leads sets
+      pub lates-abandon : {j : ℕ} → getD b 0 0 ≡ 5 → j ≡ request-of b .job → Does h an-abandon j 0 r numbers leads sets ports → Lates h (asks (request-of b)) r numbers leads sets ports
       unfolding late-answer late-next reply-of code-of want tests code-for facts job-of moved
-      lates-abandon k ej d = as-kind k (let e = subst (λ (j : ℕ). Does h an-abandon j 0 r numbers leads sets) ej d in record { answered = e .answered; left = e .left })
+      lates-abandon k ej d = as-kind k (let e = subst (λ (j : ℕ). Does h an-abandon j 0 r numbers leads sets ports) ej d in record { answered = e .answered; left = e .left })
 
 -- ---- a publish
 
@@ -92,22 +92,22 @@ code-publish {b} {o} h j cs q r =
 abbrev published-at : Held → ℕ → List ℕ → ℕ → Held
 published-at h j ws n = cond (eqb n 0) (with-slot (slot-of h j) (λ s. ended-at (put-down h s (named ws)) s) h) h
 
-publishes-by : {h : Held} {j : ℕ} {ws : List ℕ} {r : Moved} {numbers leads sets : List ℕ} (n : ℕ) → held-code h j (named ws) ≡ n → numbered (r .answer) ≡ publish-answer n j
-    → lent (r .next) (r .free) numbers leads sets ≡ published-at h j ws n → Lates h (publishes j ws) r numbers leads sets
+publishes-by : {h : Held} {j : ℕ} {ws : List ℕ} {r : Moved} {numbers leads sets ports : List ℕ} (n : ℕ) → held-code h j (named ws) ≡ n → numbered (r .answer) ≡ publish-answer n j
+    → lent (r .next) (r .free) numbers leads sets ports ≡ published-at h j ws n → Lates h (publishes j ws) r numbers leads sets ports
 unfolding late-answer late-next
 publishes-by {h} {j} {ws} n e a l = record { answered = a ∙ ap (λ (x : ℕ). publish-answer x j) (sym e); left = l ∙ ap (published-at h j ws) (sym e) }
 
 pub lates-publish-not-open : {h : Held} {j : ℕ} {ws : List ℕ} {r : Moved} {s : ℕ} → s ≡ slot (mask-of 32 (holds (h .free) (h .numbers) j)) → 32 ≤ s → Refused h NotOpen r
-    → Lates h (publishes j ws) r (h .numbers) (h .leads) (h .sets)
-lates-publish-not-open {h} {j} {ws} e z f = publishes-by 3 (code-publish h j (named ws) (slot-none h j e z) refl) (ap numbered (f .2)) (lent-same (f .0) (f .1) refl refl refl)
+    → Lates h (publishes j ws) r (h .numbers) (h .leads) (h .sets) (h .ports)
+lates-publish-not-open {h} {j} {ws} e z f = publishes-by 3 (code-publish h j (named ws) (slot-none h j e z) refl) (ap numbered (f .2)) (lent-same (f .0) (f .1) refl refl refl refl)
 
--- the writes look at no number, and change none
-down-with : (next free : ℕ) (numbers leads sets : List ℕ) (s : ℕ) (cs : List ℕ)
-    → let d = put-down (links-of free leads sets) s cs in put-down (lent next free numbers leads sets) s cs ≡ lent next (d .free) numbers (d .leads) (d .sets)
+-- the writes look at no number and no port, and change none
+down-with : (next free : ℕ) (numbers leads sets ports : List ℕ) (s : ℕ) (cs : List ℕ)
+    → let d = put-down (links-of free leads sets) s cs in put-down (lent next free numbers leads sets ports) s cs ≡ lent next (d .free) numbers (d .leads) (d .sets) ports
 unfolding stepped-at open-at leads-at touched cell-at word-at
-down-with next free numbers leads sets s [] = refl
-down-with next free numbers leads sets s (c ∷ cs) =
-    let t = stepped-at (links-of free leads sets) write s c in down-with next free numbers (t .leads) (t .sets) s cs
+down-with next free numbers leads sets ports s [] = refl
+down-with next free numbers leads sets ports s (c ∷ cs) =
+    let t = stepped-at (links-of free leads sets) write s c in down-with next free numbers (t .leads) (t .sets) ports s cs
 
 -- what `write_set` has written, at the slot as it is
 module _ {h : Held} {j s : ℕ} {b : Bool} {leads₁ sets₁ : List ℕ} (ws : List ℕ) (f : Found h j s)
@@ -118,8 +118,8 @@ module _ {h : Held} {j s : ℕ} {b : Bool} {leads₁ sets₁ : List ℕ} (ws : L
   wrote : Writes links s (named ws) b leads₁ sets₁
   wrote = subst (λ (s : ℕ). Writes links s (named ws) b leads₁ sets₁) (mod-eq-of-lt (f .inside)) t
 
-  down : put-down h s (named ws) ≡ lent (h .next) (put-down links s (named ws) .free) (h .numbers) (put-down links s (named ws) .leads) (put-down links s (named ws) .sets)
-  down = down-with (h .next) (h .free) (h .numbers) (h .leads) (h .sets) s (named ws)
+  down : put-down h s (named ws) ≡ lent (h .next) (put-down links s (named ws) .free) (h .numbers) (put-down links s (named ws) .leads) (put-down links s (named ws) .sets) (h .ports)
+  down = down-with (h .next) (h .free) (h .numbers) (h .leads) (h .sets) (h .ports) s (named ws)
 
   wrote-code : {x : Bool} → b ≡ x → held-code h j (named ws) ≡ cond x 7 0
   unfolding leads-back leads-at
@@ -128,16 +128,16 @@ module _ {h : Held} {j s : ℕ} {b : Bool} {leads₁ sets₁ : List ℕ} (ws : L
   wrote-left : {x : Bool} → b ≡ x → links-of (h .free) leads₁ sets₁ ≡ cond x links (put-down links s (named ws))
   wrote-left e = wrote .left ∙ ap (λ (x : Bool). cond x links (put-down links s (named ws))) e
 
-  pub lates-publish-circle : {r : Moved} → b ≡ true → Refused h Circle r → Lates h (publishes j ws) r (h .numbers) leads₁ sets₁
+  pub lates-publish-circle : {r : Moved} → b ≡ true → Refused h Circle r → Lates h (publishes j ws) r (h .numbers) leads₁ sets₁ (h .ports)
   lates-publish-circle e r =
       let l = wrote-left e in
-      publishes-by 7 (wrote-code e) (ap numbered (r .2)) (lent-same (r .0) (r .1) refl (λ i. l i .leads) (λ i. l i .sets))
+      publishes-by 7 (wrote-code e) (ap numbered (r .2)) (lent-same (r .0) (r .1) refl (λ i. l i .leads) (λ i. l i .sets) refl)
 
   pub lates-publish-granted : {r : Moved} {left : ℕ} {numbers leads sets : List ℕ} → b ≡ false
-      → rows-of left numbers leads sets ≡ ended-at (rows-of (h .free) (h .numbers) leads₁ sets₁) (s % 32) → Grants (h .next) left j r → Lates h (publishes j ws) r numbers leads sets
+      → rows-of left numbers leads sets ≡ ended-at (rows-of (h .free) (h .numbers) leads₁ sets₁) (s % 32) → Grants (h .next) left j r → Lates h (publishes j ws) r numbers leads sets (h .ports)
   lates-publish-granted e ends g =
       let l = wrote-left e in
       publishes-by 0 (wrote-code e) (g .2)
-      (lent-same (g .0) (g .1) refl refl refl ∙ ended-with (h .next) (h .free) (h .numbers) leads₁ sets₁ (f .inside) ends
-      ∙ ap (λ (x : Held). ended-at x s) ((λ i. lent (h .next) (l i .free) (h .numbers) (l i .leads) (l i .sets)) ∙ sym down)
+      (lent-same (g .0) (g .1) refl refl refl refl ∙ ended-with (h .next) (h .free) (h .numbers) leads₁ sets₁ (h .ports) (f .inside) ends
+      ∙ ap (λ (x : Held). ended-at x s) ((λ i. lent (h .next) (l i .free) (h .numbers) (l i .leads) (l i .sets) (h .ports)) ∙ sym down)
       ∙ ap (λ (o : Option ℕ). with-slot o (λ s. ended-at (put-down h s (named ws)) s) h) (sym (f .first)))

@@ -1,11 +1,12 @@
 -- Each contract of the crate's public functions leaves one result: two results that meet it are equal. A theorem for each function, named after it, of the
--- contract itself: `Post` is what Rattle reads of the function's `ensures`. For what is done in place the three arrays at exit are equal too.
+-- contract itself: `Post` is what Rattle reads of the function's `ensures`. For what is done in place the arrays at exit are equal too.
 --
 -- A contract gives a part of the result, as the reply that an answer is numbered and the state that the arrays make, from which the whole can be made
 -- again (`one-part`). For an answer that is so since `numbered` can be undone (`answer-back`).
 -- Assumes nothing.
 use mathlib.Core.Path.{_≡_, refl, sym, ap, _∙_}
 use mathlib.Core.Bool.{cond}
+use mathlib.Core.List.{[]}
 use lib.Dec.{eqb}
 use contract.Lifetimes.{Lfts}
 use borrow.Fn.Kinds.{Dens, resT, endedOf}
@@ -16,7 +17,7 @@ use Rattle.history.specs.Replies.{Reply}
 use Rattle.slots.specs.Lent.{numbered}
 use Rattle.slots.specs.declared.JobNumber.{JobNumber}
 use Rattle.slots.specs.declared.Answer.{Answer}
-use Rattle.slots.specs.declared.Answer.the-variants.{Granted, Malformed, NoCell, NotOpen, HasWritten, Full, Spent, Circle}
+use Rattle.slots.specs.declared.Answer.the-variants.{Granted, Malformed, NoCell, NotOpen, HasWritten, Full, Spent, Circle, NoPort, PortFull}
 use Rattle.slots.proofs.Answer.code.Kinds as code-kinds
 use Rattle.slots.proofs.Answer.code.Reads as code-reads
 use Rattle.slots.proofs.Answer.job.Kinds as job-kinds
@@ -38,7 +39,7 @@ answer-of : Reply → Answer
 answer-of r =
     let n = r .code in
     cond (eqb n 0) (Granted (record { 0 = r .job }))
-    (cond (eqb n 1) Malformed (cond (eqb n 2) NoCell (cond (eqb n 3) NotOpen (cond (eqb n 4) HasWritten (cond (eqb n 5) Full (cond (eqb n 6) Spent Circle))))))
+    (cond (eqb n 1) Malformed (cond (eqb n 2) NoCell (cond (eqb n 3) NotOpen (cond (eqb n 4) HasWritten (cond (eqb n 5) Full (cond (eqb n 6) Spent (cond (eqb n 7) Circle (cond (eqb n 8) NoPort PortFull))))))))
 
 answer-back : (a : Answer) → answer-of (numbered a) ≡ a
 unfolding answer-of
@@ -50,6 +51,8 @@ answer-back HasWritten = refl
 answer-back Full = refl
 answer-back Spent = refl
 answer-back Circle = refl
+answer-back NoPort = refl
+answer-back PortFull = refl
 
 -- no two answers have the same number
 pub one-answer : {v : Reply} (a b : Answer) → numbered a ≡ v → numbered b ≡ v → a ≡ b
@@ -63,27 +66,27 @@ one-job κs a x y s t p q = one-part (λ (r : JobNumber). r .0) (λ n. record { 
 
 -- ---- the step in place
 
--- what it returns, and the three arrays at exit, which are its third, fourth and fifth parameter
-pub one-step-in-place : (κs : Lfts 3) (a : Dens κs in-place-kinds.ps) (x y : resT in-place-kinds.r κs .Denot)
-    (s t : AtExit (endedOf 3 in-place-kinds.ps in-place-kinds.r) κs)
+-- what it returns, and the four arrays at exit, which are its third to sixth parameter
+pub one-step-in-place : (κs : Lfts 4) (a : Dens κs in-place-kinds.ps) (x y : resT in-place-kinds.r κs .Denot)
+    (s t : AtExit (endedOf 4 in-place-kinds.ps in-place-kinds.r) κs)
     → in-place-reads.Post κs a x s
     → in-place-reads.Post κs a y t
-    → (x ≡ y) × (now (s .1 .1 .0) ≡ now (t .1 .1 .0)) × (now (s .1 .1 .1 .0) ≡ now (t .1 .1 .1 .0)) × (now (s .1 .1 .1 .1 .0) ≡ now (t .1 .1 .1 .1 .0))
+    → (x ≡ y) × (now (s .1 .1 .0) ≡ now (t .1 .1 .0)) × (now (s .1 .1 .1 .0) ≡ now (t .1 .1 .1 .0)) × (now (s .1 .1 .1 .1 .0) ≡ now (t .1 .1 .1 .1 .0)) × (now (s .1 .1 .1 .1 .1 .0) ≡ now (t .1 .1 .1 .1 .1 .0))
 one-step-in-place κs a x y s t p q =
     let answer = one-answer (x .answer) (y .answer) (p .answered) (q .answered) in
     let left = p .left ∙ sym (q .left) in
-    (λ i. record { next = left i .next; free = left i .free; answer = answer i }, λ i. left i .numbers, λ i. left i .leads, λ i. left i .sets)
+    (λ i. record { next = left i .next; free = left i .free; answer = answer i }, λ i. left i .numbers, λ i. left i .leads, λ i. left i .sets, λ i. left i .ports)
 
--- the same of the second profile: a request, and a publish
-pub one-late-in-place : (κs : Lfts 3) (a : Dens κs late-kinds.ps) (x y : resT late-kinds.r κs .Denot)
-    (s t : AtExit (endedOf 3 late-kinds.ps late-kinds.r) κs)
+-- the same of the second profile: a request, and a publish, which is lent no ports
+pub one-late-in-place : (κs : Lfts 4) (a : Dens κs late-kinds.ps) (x y : resT late-kinds.r κs .Denot)
+    (s t : AtExit (endedOf 4 late-kinds.ps late-kinds.r) κs)
     → late-reads.Post κs a x s
     → late-reads.Post κs a y t
-    → (x ≡ y) × (now (s .1 .1 .0) ≡ now (t .1 .1 .0)) × (now (s .1 .1 .1 .0) ≡ now (t .1 .1 .1 .0)) × (now (s .1 .1 .1 .1 .0) ≡ now (t .1 .1 .1 .1 .0))
+    → (x ≡ y) × (now (s .1 .1 .0) ≡ now (t .1 .1 .0)) × (now (s .1 .1 .1 .0) ≡ now (t .1 .1 .1 .0)) × (now (s .1 .1 .1 .1 .0) ≡ now (t .1 .1 .1 .1 .0)) × (now (s .1 .1 .1 .1 .1 .0) ≡ now (t .1 .1 .1 .1 .1 .0))
 one-late-in-place κs a x y s t p q =
     let answer = one-answer (x .answer) (y .answer) (p .answered) (q .answered) in
     let left = p .left ∙ sym (q .left) in
-    (λ i. record { next = left i .next; free = left i .free; answer = answer i }, λ i. left i .numbers, λ i. left i .leads, λ i. left i .sets)
+    (λ i. record { next = left i .next; free = left i .free; answer = answer i }, λ i. left i .numbers, λ i. left i .leads, λ i. left i .sets, λ i. left i .ports)
 
 pub one-publish-in-place : (κs : Lfts 3) (a : Dens κs publish-kinds.ps) (x y : resT publish-kinds.r κs .Denot)
     (s t : AtExit (endedOf 3 publish-kinds.ps publish-kinds.r) κs)
@@ -91,6 +94,6 @@ pub one-publish-in-place : (κs : Lfts 3) (a : Dens κs publish-kinds.ps) (x y :
     → publish-reads.Post κs a y t
     → (x ≡ y) × (now (s .1 .1 .0) ≡ now (t .1 .1 .0)) × (now (s .1 .1 .1 .0) ≡ now (t .1 .1 .1 .0)) × (now (s .1 .1 .1 .1 .0) ≡ now (t .1 .1 .1 .1 .0))
 one-publish-in-place κs a x y s t p q =
-    let answer = one-answer (x .answer) (y .answer) (p .answered) (q .answered) in
-    let left = p .left ∙ sym (q .left) in
+    let answer = one-answer (x .answer) (y .answer) (p [] .answered) (q [] .answered) in
+    let left = p [] .left ∙ sym (q [] .left) in
     (λ i. record { next = left i .next; free = left i .free; answer = answer i }, λ i. left i .numbers, λ i. left i .leads, λ i. left i .sets)

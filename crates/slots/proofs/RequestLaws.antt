@@ -27,17 +27,17 @@ use Rattle.history.specs.Events.{Kind, write}
 use Rattle.history.specs.Formats.{request-of}
 use Rattle.history.specs.Replies.{Request, Reply, Want, an-open, a-step, an-end, an-abandon, a-publish, want, tests, code-of, job-of, reply-of}
 use Rattle.history_laws.specs.ReplyLaws.{as-kind}
-use Rattle.held.specs.Held.{Held, first-in, is-some, at-slot, with-slot, open-at, open-slots, number-at, leads-at, word-at, cell-at, slot-of, free-slot}
+use Rattle.held.specs.Held.{Held, first-in, is-some, at-slot, with-slot, open-at, open-slots, number-at, leads-at, port-at, word-at, cell-at, slot-of, free-slot}
 use Rattle.held.specs.Held.{touched, chain-back, altered, facts, has-past, opened-at, stepped-at, left-at, ended-at, abandoned-at, moved, answer-to, after}
 use Rattle.held_laws.specs.HeldBlank.{publish-held}
 use Rattle.rows.specs.Rows.{rows-of, links-of, sets-only, kind-of, Opens, is-open, touches, put, gained, marked-own}
 use Rattle.rows.proofs.RowLaws.{gained-by}
 use Rattle.rows.specs.declared.Deed.{Deed}
 use Rattle.rows.specs.declared.Deed.the-variants.{Read, Write, Add}
-use Rattle.slots.specs.Lent.{lent, numbered, Gets, code-for, Does, code-asked, Asks, Steps}
+use Rattle.slots.specs.Lent.{lent, crowd-of, under, numbered, Gets, code-for, Does, code-asked, Asks, Steps}
 use Rattle.slots.specs.Finds.{holds, circled}
 use Rattle.slots.specs.declared.Answer.{Answer}
-use Rattle.slots.specs.declared.Answer.the-variants.{Granted, Malformed, NoCell, NotOpen, HasWritten, Full, Spent, Circle}
+use Rattle.slots.specs.declared.Answer.the-variants.{Granted, Malformed, NoCell, NotOpen, HasWritten, Full, Spent, Circle, NoPort, PortFull}
 use Rattle.slots.specs.declared.Moved.{Moved}
 use Rattle.slots.proofs.CircleLaws.{circle-law}
 
@@ -143,6 +143,10 @@ some-free ne z = ne (ap ones z)
 pub free-inside : {free : ℕ} → free < 2 ^ 32 → (ones free ≡ 0 → ⊥) → slot free < 32
 free-inside {free} fits ne = lowest-mark 32 free fits (some-free ne) .inside
 
+-- the number after the next fits its type
+pub next-fits : {next : ℕ} → next < 4294967296 → next + 1 < 2 ^ 64
+next-fits q = omega arith
+
 module _ (h : Held) (fits : h .free < 2 ^ 32) where
   pub free-first : (h .free ≡ 0 → ⊥) → free-slot h ≡ some (slot (h .free))
   unfolding free-slot
@@ -161,9 +165,10 @@ module _ (h : Held) (fits : h .free < 2 ^ 32) where
 -- ---- the codes of any state, by what the tests come to
 
 module _ (h : Held) where
-  code-open : {a b : Bool} (j c : ℕ) → leb 4294967296 (h .next) ≡ a → leb 32 (length (open-slots h)) ≡ b → code-for h an-open j c ≡ cond a 6 (cond b 5 0)
-  unfolding code-for tests facts
-  code-open j c = ap₂ (λ (a b : Bool). cond a 6 (cond b 5 0))
+  code-open : {a b d e : Bool} (j c : ℕ) → leb 4294967296 (h .next) ≡ a → leb 3 j ≡ b → leb 32 (length (open-slots h)) ≡ d → leb 16 (crowd-of (h .free) (h .ports) j) ≡ e
+      → code-for h an-open j c ≡ cond a 6 (cond b 8 (cond d 5 (cond e 9 0)))
+  unfolding code-for tests facts open-slots open-at port-at
+  code-open j c ea eb ed ee = λ i. cond (ea i) 6 (cond (eb i) 8 (cond (ed i) 5 (cond (ee i) 9 0)))
 
   code-step : {a b : Bool} {o : Option ℕ} (asked : Bool) (k : Kind) (j c : ℕ) → leb 256 c ≡ a → slot-of h j ≡ o → asked && at-slot o (λ s. chain-back h k s c) ≡ b
       → code-asked h asked k j c ≡ cond a 2 (cond (not (is-some o)) 3 (cond b 7 0))
@@ -190,53 +195,69 @@ reply-at h w j n = record { code = n; job = cond (eqb n 0) (job-of (h .next) w j
 abbrev state-at : Held → Want → ℕ → ℕ → ℕ → Held
 state-at h w j c n = cond (eqb n 0) (moved h w j c) h
 
-does-by : {h : Held} {w : Want} {j c m : ℕ} {r : Moved} {numbers leads sets : List ℕ} (n : ℕ) → m ≡ n → numbered (r .answer) ≡ reply-at h w j n
-    → lent (r .next) (r .free) numbers leads sets ≡ state-at h w j c n → Gets m h w j c r numbers leads sets
+does-by : {h : Held} {w : Want} {j c m : ℕ} {r : Moved} {numbers leads sets ports : List ℕ} (n : ℕ) → m ≡ n → numbered (r .answer) ≡ reply-at h w j n
+    → lent (r .next) (r .free) numbers leads sets ports ≡ state-at h w j c n → Gets m h w j c r numbers leads sets ports
 does-by {h} {w} {j} {c} n e a l = record { answered = a ∙ ap (reply-at h w j) (sym e); left = l ∙ ap (state-at h w j c) (sym e) }
 
 -- states that are the same, part by part
-pub lent-same : {next next′ free free′ : ℕ} {numbers numbers′ leads leads′ sets sets′ : List ℕ} → next ≡ next′ → free ≡ free′ → numbers ≡ numbers′ → leads ≡ leads′ → sets ≡ sets′
-    → lent next free numbers leads sets ≡ lent next′ free′ numbers′ leads′ sets′
-lent-same n f ns ls ss = λ i. lent (n i) (f i) (ns i) (ls i) (ss i)
+pub lent-same : {next next′ free free′ : ℕ} {numbers numbers′ leads leads′ sets sets′ ports ports′ : List ℕ}
+    → next ≡ next′ → free ≡ free′ → numbers ≡ numbers′ → leads ≡ leads′ → sets ≡ sets′ → ports ≡ ports′
+    → lent next free numbers leads sets ports ≡ lent next′ free′ numbers′ leads′ sets′ ports′
+lent-same n f ns ls ss ps = λ i. lent (n i) (f i) (ns i) (ls i) (ss i) (ps i)
 
 -- ---- the refusals that need no slot
 
 module _ {h : Held} {j c : ℕ} {r : Moved} where
   -- for a code that is not 0 the second and third equations compute
   refuses : {w : Want} {a : Answer} {m : ℕ} (n : ℕ) → m ≡ n → numbered a ≡ reply-at h w j n → h ≡ state-at h w j c n → Refused h a r
-      → Gets m h w j c r (h .numbers) (h .leads) (h .sets)
-  refuses n e a l f = does-by n e (ap numbered (f .2) ∙ a) (lent-same (f .0) (f .1) refl refl refl ∙ l)
+      → Gets m h w j c r (h .numbers) (h .leads) (h .sets) (h .ports)
+  refuses n e a l f = does-by n e (ap numbered (f .2) ∙ a) (lent-same (f .0) (f .1) refl refl refl refl ∙ l)
 
-  pub does-open-spent : 4294967296 ≤ h .next → Refused h Spent r → Does h an-open j c r (h .numbers) (h .leads) (h .sets)
-  does-open-spent q = refuses 6 (code-open h j c (le-leb 4294967296 (h .next) q) refl) refl refl
+  pub does-open-spent : 4294967296 ≤ h .next → Refused h Spent r → Does h an-open j c r (h .numbers) (h .leads) (h .sets) (h .ports)
+  does-open-spent q = refuses 6 (code-open h j c (le-leb 4294967296 (h .next) q) refl refl refl) refl refl
 
-  pub does-open-full : h .free < 2 ^ 32 → h .next < 4294967296 → ones (h .free) ≡ 0 → Refused h Full r → Does h an-open j c r (h .numbers) (h .leads) (h .sets)
-  does-open-full fits q z = refuses 5 (code-open h j c (lt-leb 4294967296 (h .next) q) (count-full h fits ∙ eq-eqb (ones (h .free)) 0 z)) refl refl
+  module _ (q : h .next < 4294967296) where
+    pub does-open-no-port : 3 ≤ j → Refused h NoPort r → Does h an-open j c r (h .numbers) (h .leads) (h .sets) (h .ports)
+    does-open-no-port p = refuses 8 (code-open h j c (lt-leb 4294967296 (h .next) q) (le-leb 3 j p) refl refl) refl refl
 
-  pub asks-no-cell : (asked : Bool) {k : Kind} → 256 ≤ c → Refused h NoCell r → Asks h asked k j c r (h .numbers) (h .leads) (h .sets)
+    module _ (fits : h .free < 2 ^ 32) (p : j < 3) where
+      pub does-open-full : ones (h .free) ≡ 0 → Refused h Full r → Does h an-open j c r (h .numbers) (h .leads) (h .sets) (h .ports)
+      does-open-full z =
+          refuses 5 (code-open h j c (lt-leb 4294967296 (h .next) q) (lt-leb 3 j p) (count-full h fits ∙ eq-eqb (ones (h .free)) 0 z) refl) refl refl
+
+      pub does-open-port-full : {n : ℕ} → (ones (h .free) ≡ 0 → ⊥) → n ≡ crowd-of (h .free) (h .ports) j → 16 ≤ n → Refused h PortFull r
+          → Does h an-open j c r (h .numbers) (h .leads) (h .sets) (h .ports)
+      does-open-port-full {n} ne e z =
+          refuses 9 (code-open h j c (lt-leb 4294967296 (h .next) q) (lt-leb 3 j p) (count-full h fits ∙ ne-eqb (ones (h .free)) 0 ne) (ap (leb 16) (sym e) ∙ le-leb 16 n z)) refl refl
+
+  pub asks-no-cell : (asked : Bool) {k : Kind} → 256 ≤ c → Refused h NoCell r → Asks h asked k j c r (h .numbers) (h .leads) (h .sets) (h .ports)
   asks-no-cell asked {k} q = refuses 2 (code-step h asked k j c (le-leb 256 c q) refl refl) refl refl
 
   module _ {s : ℕ} (e : s ≡ slot (mask-of 32 (holds (h .free) (h .numbers) j))) (z : 32 ≤ s) where
-    pub asks-not-open : (asked : Bool) {k : Kind} → c < 256 → Refused h NotOpen r → Asks h asked k j c r (h .numbers) (h .leads) (h .sets)
+    pub asks-not-open : (asked : Bool) {k : Kind} → c < 256 → Refused h NotOpen r → Asks h asked k j c r (h .numbers) (h .leads) (h .sets) (h .ports)
     asks-not-open asked {k} q = refuses 3 (code-step h asked k j c (lt-leb 256 c q) (slot-none h j e z) refl) refl refl
 
-    pub does-end-not-open : Refused h NotOpen r → Does h an-end j c r (h .numbers) (h .leads) (h .sets)
+    pub does-end-not-open : Refused h NotOpen r → Does h an-end j c r (h .numbers) (h .leads) (h .sets) (h .ports)
     does-end-not-open = refuses 3 (code-end h j c (slot-none h j e z)) refl refl
 
-    pub does-abandon-not-open : Refused h NotOpen r → Does h an-abandon j c r (h .numbers) (h .leads) (h .sets)
+    pub does-abandon-not-open : Refused h NotOpen r → Does h an-abandon j c r (h .numbers) (h .leads) (h .sets) (h .ports)
     does-abandon-not-open = refuses 3 (code-abandon h j c (slot-none h j e z) refl) refl refl
 
 -- ---- an open that is granted
 
-pub does-open-granted : {h : Held} {j c taken : ℕ} {numbers leads sets : List ℕ} → h .free < 2 ^ 32 → h .next < 4294967296 → (ones (h .free) ≡ 0 → ⊥)
+pub does-open-granted : {h : Held} {j c n taken : ℕ} {numbers leads sets ports : List ℕ} → h .free < 2 ^ 32 → h .next < 4294967296 → j < 3 → (ones (h .free) ≡ 0 → ⊥)
+    → n ≡ crowd-of (h .free) (h .ports) j → n < 16
     → numbers ≡ put (h .numbers) (slot (h .free)) (h .next % 4294967296)
+    → ports ≡ under (h .ports) j (slot (h .free))
     → Opens (links-of (h .free) (h .leads) (h .sets)) (slot (h .free) % 32) taken leads sets
-    → Does h an-open j c (record { next = h .next + 1; free = taken; answer = Granted (record { 0 = h .next % 4294967296 }) }) numbers leads sets
-unfolding moved opened-at number-at leads-at open-at has-past word-at job-of
-does-open-granted {h} {j} {c} {taken} {leads = leads} {sets = sets} fits q ne ns o =
-    does-by 0 (code-open h j c (lt-leb 4294967296 (h .next) q) (count-full h fits ∙ ne-eqb (ones (h .free)) 0 ne)) (λ i. record { code = 0; job = number i })
-    (lent-same (add-one (h .next)) (d .left-free) (ns ∙ ap (put (h .numbers) (slot (h .free))) number) (d .left-leads) (d .left-sets)
-    ∙ ap (λ (o : Option ℕ). with-slot o (λ s. opened-at h s) h) (sym (free-first h fits (some-free ne))))
+    → Does h an-open j c (record { next = h .next + 1; free = taken; answer = Granted (record { 0 = h .next % 4294967296 }) }) numbers leads sets ports
+unfolding moved opened-at number-at leads-at open-at has-past word-at port-at job-of
+does-open-granted {h} {j} {c} {n} {taken} {leads = leads} {sets = sets} fits q p ne e few ns ps o =
+    does-by 0
+    (code-open h j c (lt-leb 4294967296 (h .next) q) (lt-leb 3 j p) (count-full h fits ∙ ne-eqb (ones (h .free)) 0 ne) (ap (leb 16) (sym e) ∙ lt-leb 16 n few))
+    (λ i. record { code = 0; job = number i })
+    (lent-same (add-one (h .next)) (d .left-free) (ns ∙ ap (put (h .numbers) (slot (h .free))) number) (d .left-leads) (d .left-sets) ps
+    ∙ ap (λ (o : Option ℕ). with-slot o (λ s. opened-at h j s) h) (sym (free-first h fits (some-free ne))))
   where
     number : h .next % 4294967296 ≡ h .next
     number = mod-eq-of-lt q
@@ -263,44 +284,44 @@ module _ {h : Held} {asked : Bool} {k : Kind} {j c s from : ℕ} {closed : Bool}
       code-step h asked k j c (lt-leb 256 c (l .cell-lt)) (f .first)
       (ap (λ (b : Bool). asked && b) (circle-law h k s c refl touched-here refl (f .inside) (f .was-open)) ∙ sym (l .closes) ∙ e)
 
-  pub asks-circle : {r : Moved} → closed ≡ true → Refused h Circle r → Asks h asked k j c r (h .numbers) (h .leads) (h .sets)
+  pub asks-circle : {r : Moved} → closed ≡ true → Refused h Circle r → Asks h asked k j c r (h .numbers) (h .leads) (h .sets) (h .ports)
   asks-circle e = refuses 7 (step-code e) refl refl
 
   pub asks-granted : {r : Moved} {leads sets : List ℕ} → closed ≡ false
       → (leads ≡ gained (h .leads) (bit from) (2 ^ (s % 32))) × (sets ≡ marked-own (h .sets) (s % 32) k (c % 256)) → Grants (h .next) (h .free) j r
-      → Asks h asked k j c r (h .numbers) leads sets
+      → Asks h asked k j c r (h .numbers) leads sets (h .ports)
   unfolding moved stepped-at open-at leads-at touched cell-at word-at job-of
   asks-granted e p g =
       let m = mod-eq-of-lt (l .found .inside) in
       does-by 0 (step-code e) (g .2)
       (lent-same (g .0) (g .1) refl
       (p .0 ∙ gained-by (h .leads) (touches (h .free) (h .sets) k s c) (2 ^ (s % 32)) touched-here ∙ ap (λ (n : ℕ). gained (h .leads) (touches (h .free) (h .sets) k s c) (2 ^ n)) m)
-      (p .1 ∙ ap₂ (λ (s c : ℕ). marked-own (h .sets) s k c) m (mod-eq-of-lt (l .cell-lt)))
+      (p .1 ∙ ap₂ (λ (s c : ℕ). marked-own (h .sets) s k c) m (mod-eq-of-lt (l .cell-lt))) refl
       ∙ ap (λ (o : Option ℕ). with-slot o (λ s. stepped-at h k s c) h) (sym (l .found .first)))
 
 -- a step that is tested is one of the first profile
-pub asks-does : {h : Held} {k : Kind} {j c : ℕ} {r : Moved} {numbers leads sets : List ℕ} → Asks h true k j c r numbers leads sets → Does h (a-step k) j c r numbers leads sets
+pub asks-does : {h : Held} {k : Kind} {j c : ℕ} {r : Moved} {numbers leads sets ports : List ℕ} → Asks h true k j c r numbers leads sets ports → Does h (a-step k) j c r numbers leads sets ports
 unfolding code-asked code-for
 asks-does d = record { answered = d .answered; left = d .left }
 
 -- ---- a slot that is left
 
--- no rule of an end or of an abandon looks at the next number
-pub ended-with : (next free : ℕ) (numbers leads sets : List ℕ) {s left : ℕ} {numbers′ leads′ sets′ : List ℕ} → s < 32
+-- no rule of an end or of an abandon looks at the next number or at the ports
+pub ended-with : (next free : ℕ) (numbers leads sets ports : List ℕ) {s left : ℕ} {numbers′ leads′ sets′ : List ℕ} → s < 32
     → rows-of left numbers′ leads′ sets′ ≡ ended-at (rows-of free numbers leads sets) (s % 32)
-    → lent next left numbers′ leads′ sets′ ≡ ended-at (lent next free numbers leads sets) s
+    → lent next left numbers′ leads′ sets′ ports ≡ ended-at (lent next free numbers leads sets ports) s
 unfolding ended-at left-at number-at leads-at word-at open-at
-ended-with next free numbers leads sets q e =
+ended-with next free numbers leads sets ports q e =
     let l = e ∙ ap (ended-at (rows-of free numbers leads sets)) (mod-eq-of-lt q) in
-    λ i. lent next (l i .free) (l i .numbers) (l i .leads) (l i .sets)
+    λ i. lent next (l i .free) (l i .numbers) (l i .leads) (l i .sets) ports
 
-abandoned-with : (next free : ℕ) (numbers leads sets : List ℕ) {s left : ℕ} {numbers′ leads′ sets′ : List ℕ} → s < 32
+abandoned-with : (next free : ℕ) (numbers leads sets ports : List ℕ) {s left : ℕ} {numbers′ leads′ sets′ : List ℕ} → s < 32
     → rows-of left numbers′ leads′ sets′ ≡ abandoned-at (rows-of free numbers leads sets) (s % 32)
-    → lent next left numbers′ leads′ sets′ ≡ abandoned-at (lent next free numbers leads sets) s
+    → lent next left numbers′ leads′ sets′ ports ≡ abandoned-at (lent next free numbers leads sets ports) s
 unfolding abandoned-at left-at number-at leads-at word-at open-at
-abandoned-with next free numbers leads sets q e =
+abandoned-with next free numbers leads sets ports q e =
     let l = e ∙ ap (abandoned-at (rows-of free numbers leads sets)) (mod-eq-of-lt q) in
-    λ i. lent next (l i .free) (l i .numbers) (l i .leads) (l i .sets)
+    λ i. lent next (l i .free) (l i .numbers) (l i .leads) (l i .sets) ports
 
 -- what `has_altered` tells
 abandon-code : {h : Held} {j s : ℕ} {b x : Bool} (c : ℕ) → Found h j s → b ≡ altered (sets-only (h .sets)) (s % 32) → b ≡ x → code-for h an-abandon j c ≡ cond x 4 0
@@ -310,37 +331,37 @@ abandon-code {h} {j} c f e y = code-abandon h j c (f .first) (ap (altered h) (sy
 module _ {h : Held} {j c s : ℕ} {r : Moved} (f : Found h j s) where
   pub does-end-granted : {left : ℕ} {numbers leads sets : List ℕ}
       → rows-of left numbers leads sets ≡ ended-at (rows-of (h .free) (h .numbers) (h .leads) (h .sets)) (s % 32) → Grants (h .next) left j r
-      → Does h an-end j c r numbers leads sets
+      → Does h an-end j c r numbers leads sets (h .ports)
   unfolding moved job-of
   does-end-granted l g =
       does-by 0 (code-end h j c (f .first)) (g .2)
-      (lent-same (g .0) (g .1) refl refl refl ∙ ended-with (h .next) (h .free) (h .numbers) (h .leads) (h .sets) (f .inside) l
+      (lent-same (g .0) (g .1) refl refl refl refl ∙ ended-with (h .next) (h .free) (h .numbers) (h .leads) (h .sets) (h .ports) (f .inside) l
       ∙ ap (λ (o : Option ℕ). with-slot o (λ s. ended-at h s) h) (sym (f .first)))
 
   module _ {b : Bool} (e : b ≡ altered (sets-only (h .sets)) (s % 32)) where
-    pub does-abandon-written : b ≡ true → Refused h HasWritten r → Does h an-abandon j c r (h .numbers) (h .leads) (h .sets)
+    pub does-abandon-written : b ≡ true → Refused h HasWritten r → Does h an-abandon j c r (h .numbers) (h .leads) (h .sets) (h .ports)
     does-abandon-written y = refuses 4 (abandon-code c f e y) refl refl
 
     pub does-abandon-granted : {left : ℕ} {numbers leads sets : List ℕ} → b ≡ false
         → rows-of left numbers leads sets ≡ abandoned-at (rows-of (h .free) (h .numbers) (h .leads) (h .sets)) (s % 32) → Grants (h .next) left j r
-        → Does h an-abandon j c r numbers leads sets
+        → Does h an-abandon j c r numbers leads sets (h .ports)
     unfolding moved job-of
     does-abandon-granted y l g =
         does-by 0 (abandon-code c f e y) (g .2)
-        (lent-same (g .0) (g .1) refl refl refl ∙ abandoned-with (h .next) (h .free) (h .numbers) (h .leads) (h .sets) (f .inside) l
+        (lent-same (g .0) (g .1) refl refl refl refl ∙ abandoned-with (h .next) (h .free) (h .numbers) (h .leads) (h .sets) (h .ports) (f .inside) l
         ∙ ap (λ (o : Option ℕ). with-slot o (λ s. abandoned-at h s) h) (sym (f .first)))
 
 -- ---- a publish
 
 -- the write has left r₁ with its two arrays, and n is the code of its answer
-module _ {h : Held} {j c : ℕ} {r₁ : Moved} {leads₁ sets₁ : List ℕ} {n : ℕ} (d : Does h (a-step write) j c r₁ (h .numbers) leads₁ sets₁) (e : n ≡ numbered (r₁ .answer) .code) where
+module _ {h : Held} {j c : ℕ} {r₁ : Moved} {leads₁ sets₁ : List ℕ} {n : ℕ} (d : Does h (a-step write) j c r₁ (h .numbers) leads₁ sets₁ (h .ports)) (e : n ≡ numbered (r₁ .answer) .code) where
   abbrev publishing : Request
   publishing = record { kind = 6; byte1 = 0; cell = c; job = j }
 
   write-code : code-for h (a-step write) j c ≡ n
   write-code = sym (ap (λ (x : Reply). x .code) (d .answered)) ∙ sym e
 
-  pub does-publish-refused : (n ≡ 0 → ⊥) → Does h a-publish j c r₁ (h .numbers) leads₁ sets₁
+  pub does-publish-refused : (n ≡ 0 → ⊥) → Does h a-publish j c r₁ (h .numbers) leads₁ sets₁ (h .ports)
   unfolding code-for tests job-of
   does-publish-refused f =
       record {
@@ -352,15 +373,15 @@ module _ {h : Held} {j c : ℕ} {r₁ : Moved} {leads₁ sets₁ : List ℕ} {n 
       no-grant = ap (λ (x : ℕ). eqb x 0) write-code ∙ ne-eqb n 0 f
 
   -- and the end has left r: by what `held` says of a publish, of its write and of its end
-  pub does-publish-granted : {r : Moved} {numbers leads sets : List ℕ} → n ≡ 0
-      → Does (lent (r₁ .next) (r₁ .free) (h .numbers) leads₁ sets₁) an-end j 0 r numbers leads sets → Does h a-publish j c r numbers leads sets
+  pub does-publish-granted : {r : Moved} {numbers leads sets ports : List ℕ} → n ≡ 0
+      → Does (lent (r₁ .next) (r₁ .free) (h .numbers) leads₁ sets₁ (h .ports)) an-end j 0 r numbers leads sets ports → Does h a-publish j c r numbers leads sets ports
   unfolding code-for code-of tests want after moved job-of
   does-publish-granted z f =
-      does-by 0 (write-code ∙ z) (f .answered ∙ ap (reply-at (lent (r₁ .next) (r₁ .free) (h .numbers) leads₁ sets₁) an-end j) ends)
+      does-by 0 (write-code ∙ z) (f .answered ∙ ap (reply-at (lent (r₁ .next) (r₁ .free) (h .numbers) leads₁ sets₁ (h .ports)) an-end j) ends)
       (f .left ∙ ap (λ (x : Held). after x (as-kind 4 publishing)) (d .left) ∙ sym (publish-held h publishing .both (write-code ∙ z))
       ∙ ap (state-at h a-publish j c) (write-code ∙ z))
     where
-      ends : code-for (lent (r₁ .next) (r₁ .free) (h .numbers) leads₁ sets₁) an-end j 0 ≡ 0
+      ends : code-for (lent (r₁ .next) (r₁ .free) (h .numbers) leads₁ sets₁ (h .ports)) an-end j 0 ≡ 0
       ends = ap (λ (x : Held). code-of (facts x) (as-kind 4 publishing)) (d .left) ∙ publish-held h publishing .end-next (write-code ∙ z)
 
 -- ---- a request of eight bytes
@@ -371,9 +392,9 @@ code-byte : {x : Bool} (h : Held) (b : List ℕ) → eqb (getD b 1 0) 0 ≡ x
 unfolding code-of code-for request-of
 code-byte h b = ap (λ (x : Bool). cond (not x) 1 (code-for h (want (getD b 0 0)) (request-of b .job) (request-of b .cell)))
 
-steps-by : {h : Held} {r : Moved} {numbers leads sets : List ℕ} (b : List ℕ) (n : ℕ) → code-of (facts h) (request-of b) ≡ n
+steps-by : {h : Held} {r : Moved} {numbers leads sets ports : List ℕ} (b : List ℕ) (n : ℕ) → code-of (facts h) (request-of b) ≡ n
     → numbered (r .answer) ≡ reply-at h (want (getD b 0 0)) (request-of b .job) n
-    → lent (r .next) (r .free) numbers leads sets ≡ state-at h (want (getD b 0 0)) (request-of b .job) (request-of b .cell) n → Steps h (request-of b) r numbers leads sets
+    → lent (r .next) (r .free) numbers leads sets ports ≡ state-at h (want (getD b 0 0)) (request-of b .job) (request-of b .cell) n → Steps h (request-of b) r numbers leads sets ports
 unfolding answer-to after reply-of facts request-of
 steps-by {h} b n e a l =
     record {
@@ -394,44 +415,44 @@ step-want Write = refl
 step-want Add = refl
 
 module _ {h : Held} {r : Moved} (b : List ℕ) where
-  malformed : code-of (facts h) (request-of b) ≡ 1 → Refused h Malformed r → Steps h (request-of b) r (h .numbers) (h .leads) (h .sets)
-  malformed e f = steps-by b 1 e (ap numbered (f .2)) (lent-same (f .0) (f .1) refl refl refl)
+  malformed : code-of (facts h) (request-of b) ≡ 1 → Refused h Malformed r → Steps h (request-of b) r (h .numbers) (h .leads) (h .sets) (h .ports)
+  malformed e f = steps-by b 1 e (ap numbered (f .2)) (lent-same (f .0) (f .1) refl refl refl refl)
 
-  pub steps-byte : (getD b 1 0 ≡ 0 → ⊥) → Refused h Malformed r → Steps h (request-of b) r (h .numbers) (h .leads) (h .sets)
+  pub steps-byte : (getD b 1 0 ≡ 0 → ⊥) → Refused h Malformed r → Steps h (request-of b) r (h .numbers) (h .leads) (h .sets) (h .ports)
   steps-byte ne = malformed (code-byte h b (ne-eqb (getD b 1 0) 0 ne))
 
   module _ (z : getD b 1 0 ≡ 0) where
     -- the kind is none of the seven, as the last arm of a match says it
     pub steps-kind : ((((((Unit {0} × (getD b 0 0 ≡ 1 → ⊥)) × (getD b 0 0 ≡ 2 → ⊥)) × (getD b 0 0 ≡ 3 → ⊥)) × (getD b 0 0 ≡ 4 → ⊥)) × (getD b 0 0 ≡ 5 → ⊥)) × (getD b 0 0 ≡ 6 → ⊥)) × (getD b 0 0 ≡ 7 → ⊥)
-        → Refused h Malformed r → Steps h (request-of b) r (h .numbers) (h .leads) (h .sets)
+        → Refused h Malformed r → Steps h (request-of b) r (h .numbers) (h .leads) (h .sets) (h .ports)
     unfolding want code-for tests
     steps-kind n =
         let k = getD b 0 0 in
         malformed (code-byte h b (eq-eqb (getD b 1 0) 0 z) ∙ rw (ne-eqb k 1 (n .0 .0 .0 .0 .0 .0 .1), ne-eqb k 2 (n .0 .0 .0 .0 .0 .1), ne-eqb k 3 (n .0 .0 .0 .0 .1), ne-eqb k 4 (n .0 .0 .0 .1), ne-eqb k 5 (n .0 .0 .1), ne-eqb k 6 (n .0 .1), ne-eqb k 7 (n .1)) refl)
 
-    -- a well-formed request does what is done for its kind. Only a step and a publish look at the cell, and an open not at the job either
-    module _ {numbers leads sets : List ℕ} where
-      steps-does : {w : Want} {j c : ℕ} → want (getD b 0 0) ≡ w → j ≡ request-of b .job → c ≡ request-of b .cell → Does h w j c r numbers leads sets
-          → Steps h (request-of b) r numbers leads sets
-      steps-does ew ej ec d = let e = subst₃ (λ w j c. Does h w j c r numbers leads sets) (sym ew) ej ec d in steps-by b _ (code-byte h b (eq-eqb (getD b 1 0) 0 z)) (e .answered) (e .left)
+    -- a well-formed request does what is done for its kind. Only a step and a publish look at the cell
+    module _ {numbers leads sets ports : List ℕ} where
+      steps-does : {w : Want} {j c : ℕ} → want (getD b 0 0) ≡ w → j ≡ request-of b .job → c ≡ request-of b .cell → Does h w j c r numbers leads sets ports
+          → Steps h (request-of b) r numbers leads sets ports
+      steps-does ew ej ec d = let e = subst₃ (λ w j c. Does h w j c r numbers leads sets ports) (sym ew) ej ec d in steps-by b _ (code-byte h b (eq-eqb (getD b 1 0) 0 z)) (e .answered) (e .left)
 
       pub steps-step : (d : Deed) {j c : ℕ} → getD b 0 0 ≡ asked-by d → j ≡ request-of b .job → c ≡ request-of b .cell
-          → Does h (a-step (kind-of d)) j c r numbers leads sets → Steps h (request-of b) r numbers leads sets
+          → Does h (a-step (kind-of d)) j c r numbers leads sets ports → Steps h (request-of b) r numbers leads sets ports
       steps-step d k = steps-does (ap want k ∙ step-want d)
 
       pub steps-publish : {j c : ℕ} → getD b 0 0 ≡ 6 → j ≡ request-of b .job → c ≡ request-of b .cell
-          → Does h a-publish j c r numbers leads sets → Steps h (request-of b) r numbers leads sets
+          → Does h a-publish j c r numbers leads sets ports → Steps h (request-of b) r numbers leads sets ports
       unfolding want
       steps-publish k = steps-does (ap want k)
 
-      pub steps-open : getD b 0 0 ≡ 1 → Does h an-open 0 0 r numbers leads sets → Steps h (request-of b) r numbers leads sets
+      pub steps-open : {j : ℕ} → getD b 0 0 ≡ 1 → j ≡ request-of b .job → Does h an-open j 0 r numbers leads sets ports → Steps h (request-of b) r numbers leads sets ports
       unfolding want code-for tests job-of moved
-      steps-open k d = steps-does (ap want k) refl refl (record { answered = d .answered; left = d .left })
+      steps-open k e d = steps-does (ap want k) e refl (record { answered = d .answered; left = d .left })
 
-      pub steps-end : {j : ℕ} → getD b 0 0 ≡ 4 → j ≡ request-of b .job → Does h an-end j 0 r numbers leads sets → Steps h (request-of b) r numbers leads sets
+      pub steps-end : {j : ℕ} → getD b 0 0 ≡ 4 → j ≡ request-of b .job → Does h an-end j 0 r numbers leads sets ports → Steps h (request-of b) r numbers leads sets ports
       unfolding want code-for tests job-of moved
       steps-end k e d = steps-does (ap want k) e refl (record { answered = d .answered; left = d .left })
 
-      pub steps-abandon : {j : ℕ} → getD b 0 0 ≡ 5 → j ≡ request-of b .job → Does h an-abandon j 0 r numbers leads sets → Steps h (request-of b) r numbers leads sets
+      pub steps-abandon : {j : ℕ} → getD b 0 0 ≡ 5 → j ≡ request-of b .job → Does h an-abandon j 0 r numbers leads sets ports → Steps h (request-of b) r numbers leads sets ports
       unfolding want code-for tests job-of moved
       steps-abandon k e d = steps-does (ap want k) e refl (record { answered = d .answered; left = d .left })

@@ -3,14 +3,15 @@
 // `arbiter` keeps the state by value over them, runs many requests, and has what C and Rust link.
 ghost use mathlib.Core.Path.{_≡_};
 ghost use mathlib.Core.Bool.{_&&_};
-ghost use Prim.Native.Nat.{_<_};
+ghost use mathlib.Core.List.{List};
+ghost use Prim.Native.Nat.{ℕ, _<_};
 ghost use lib.Count.{trailingZeros};
 ghost use Rattle.marks.specs.Marks.{mask-of};
 ghost use Rattle.history.specs.Formats.{request-of};
 ghost use Rattle.history.specs.Replies.{an-open, an-end, an-abandon, a-publish};
 ghost use Rattle.late.specs.Late.{asks, publishes};
 ghost use Rattle.rows.specs.Rows.{kind-of};
-ghost use Rattle.slots.specs.Lent.{lent, numbered, Does, Asks, Steps, Lates};
+ghost use Rattle.slots.specs.Lent.{lent, numbered, crowd-of, under, Does, Asks, Steps, Lates};
 ghost use Rattle.slots.specs.Finds.{holds, reaches, circled};
 use cells::Cell;
 use cells::CellSet;
@@ -37,10 +38,12 @@ pub enum Answer {
     Full,
     Spent,
     Circle,
+    NoPort,
+    PortFull,
 }
 
 impl Answer {
-    // Document 01's code.
+    // Document 01's code; 8 and 9 are those of document 02, order 9.
     pub fn code(self) -> u32
         ensures { λ r. ⌜ r ≡ numbered self .code ⌝ }
     {
@@ -53,6 +56,8 @@ impl Answer {
             Answer::Full => 5,
             Answer::Spent => 6,
             Answer::Circle => 7,
+            Answer::NoPort => 8,
+            Answer::PortFull => 9,
         }
     }
 
@@ -69,6 +74,8 @@ impl Answer {
             Answer::Full => JobNumber(0),
             Answer::Spent => JobNumber(0),
             Answer::Circle => JobNumber(0),
+            Answer::NoPort => JobNumber(0),
+            Answer::PortFull => JobNumber(0),
         }
     }
 }
@@ -143,7 +150,7 @@ fn closes(asked: bool, free: u32, leads: &[u32; 32], slot: Slot, from: u32) -> b
     (seen & me) | ((seen | me) & from) != 0
 }
 
-// ---- the requests
+// ---- how a request ends
 
 // A refusal: nothing moves.
 fn refused(next: u64, free: u32, answer: Answer) -> Moved
@@ -167,25 +174,60 @@ fn granted(next: u64, free: u32, job: JobNumber) -> Moved
     }
 }
 
+// ---- the ports, each with a mask of its slots
+
+// How many open slots a port has.
+fn crowd(free: u32, ports: &[u32; 3], port: u32) -> u32
+    requires { ⌜ port < 3 ⌝ }
+    ensures { λ r. ⌜ r ≡ crowd-of free (now (ports .entry)) port ⌝ }
+{
+    u32::count_ones(!free & ports[port as usize])
+}
+
+// The slot goes under its port, and under no other.
+fn put_under(ports: &mut [u32; 3], port: u32, slot: Slot)
+    requires { ⌜ (port < 3) × (slot .0 < 32) ⌝ }
+    ensures { λ _. ⌜ now (ports .exit) ≡ under (now (ports .entry)) port (slot .0) ⌝ }
+{
+    let mark = 1u32 << slot.0;
+    let masks = &mut ports[..];
+    masks[0] &= !mark;
+    masks[1] &= !mark;
+    masks[2] &= !mark;
+    masks[port as usize] |= mark;
+}
+
+// ---- one request of each kind. Where no ports are lent they stay, whatever they are
+
+// The job field of an open names the port.
 fn open_job(
     next: u64,
     free: u32,
     numbers: &mut [u32; 32],
     leads: &mut [u32; 32],
     sets: &mut [u64; 512],
+    ports: &mut [u32; 3],
+    port: u32,
 ) -> Moved
-    ensures { λ r. ⌜ Does (lent next free (now (numbers .entry)) (now (leads .entry)) (now (sets .entry))) an-open 0 0 r (now (numbers .exit)) (now (leads .exit)) (now (sets .exit)) ⌝ }
+    ensures { λ r. ⌜ Does (lent next free (now (numbers .entry)) (now (leads .entry)) (now (sets .entry)) (now (ports .entry))) an-open port 0 r (now (numbers .exit)) (now (leads .exit)) (now (sets .exit)) (now (ports .exit)) ⌝ }
 {
     if 4294967296 <= next {
         return refused(next, free, Answer::Spent);
     }
+    if 3 <= port {
+        return refused(next, free, Answer::NoPort);
+    }
     if u32::count_ones(free) == 0 {
         return refused(next, free, Answer::Full);
+    }
+    if 16 <= crowd(free, ports, port) {
+        return refused(next, free, Answer::PortFull);
     }
     let slot = Slot(u32::trailing_zeros(free));
     let number = (next % 4294967296) as u32;
     let rows = &mut numbers[..];
     rows[slot.0 as usize] = number;
+    put_under(ports, port, slot);
     let taken = open_slot(free, leads, sets, slot);
     Moved {
         next: next + 1,
@@ -206,7 +248,7 @@ fn step_job(
     cell: u32,
     asked: bool,
 ) -> Moved
-    ensures { λ r. ⌜ Asks (lent next free (now (numbers .entry)) (now (leads .entry)) (now (sets .entry))) asked (kind-of deed) (job .0) cell r (now (numbers .entry)) (now (leads .exit)) (now (sets .exit)) ⌝ }
+    ensures { λ r. ⌜ ((ports : List ℕ) → Asks (lent next free (now (numbers .entry)) (now (leads .entry)) (now (sets .entry)) ports) asked (kind-of deed) (job .0) cell r (now (numbers .entry)) (now (leads .exit)) (now (sets .exit)) ports) ⌝ }
 {
     if 256 <= cell {
         return refused(next, free, Answer::NoCell);
@@ -233,7 +275,7 @@ fn end_job(
     sets: &mut [u64; 512],
     job: JobNumber,
 ) -> Moved
-    ensures { λ r. ⌜ Does (lent next free (now (numbers .entry)) (now (leads .entry)) (now (sets .entry))) an-end (job .0) 0 r (now (numbers .exit)) (now (leads .exit)) (now (sets .exit)) ⌝ }
+    ensures { λ r. ⌜ ((ports : List ℕ) → Does (lent next free (now (numbers .entry)) (now (leads .entry)) (now (sets .entry)) ports) an-end (job .0) 0 r (now (numbers .exit)) (now (leads .exit)) (now (sets .exit)) ports) ⌝ }
 {
     let at = slot_for(free, numbers, job);
     if 32 <= at {
@@ -251,7 +293,7 @@ fn abandon_job(
     sets: &mut [u64; 512],
     job: JobNumber,
 ) -> Moved
-    ensures { λ r. ⌜ Does (lent next free (now (numbers .entry)) (now (leads .entry)) (now (sets .entry))) an-abandon (job .0) 0 r (now (numbers .exit)) (now (leads .exit)) (now (sets .exit)) ⌝ }
+    ensures { λ r. ⌜ ((ports : List ℕ) → Does (lent next free (now (numbers .entry)) (now (leads .entry)) (now (sets .entry)) ports) an-abandon (job .0) 0 r (now (numbers .exit)) (now (leads .exit)) (now (sets .exit)) ports) ⌝ }
 {
     let at = slot_for(free, numbers, job);
     if 32 <= at {
@@ -274,7 +316,7 @@ fn publish_job(
     job: JobNumber,
     on: u32,
 ) -> Moved
-    ensures { λ r. ⌜ Does (lent next free (now (numbers .entry)) (now (leads .entry)) (now (sets .entry))) a-publish (job .0) on r (now (numbers .exit)) (now (leads .exit)) (now (sets .exit)) ⌝ }
+    ensures { λ r. ⌜ ((ports : List ℕ) → Does (lent next free (now (numbers .entry)) (now (leads .entry)) (now (sets .entry)) ports) a-publish (job .0) on r (now (numbers .exit)) (now (leads .exit)) (now (sets .exit)) ports) ⌝ }
 {
     let written = step_job(next, free, numbers, leads, sets, Deed::Write, job, on, true);
     let answer = written.answer;
@@ -315,9 +357,10 @@ pub fn step_in_place(
     numbers: &mut [u32; 32],
     leads: &mut [u32; 32],
     sets: &mut [u64; 512],
+    ports: &mut [u32; 3],
     request: [u8; 8],
 ) -> Moved
-    ensures { λ r. ⌜ Steps (lent next free (now (numbers .entry)) (now (leads .entry)) (now (sets .entry))) (request-of request) r (now (numbers .exit)) (now (leads .exit)) (now (sets .exit)) ⌝ }
+    ensures { λ r. ⌜ Steps (lent next free (now (numbers .entry)) (now (leads .entry)) (now (sets .entry)) (now (ports .entry))) (request-of request) r (now (numbers .exit)) (now (leads .exit)) (now (sets .exit)) (now (ports .exit)) ⌝ }
 {
     if request[1] != 0 {
         return refused(next, free, Answer::Malformed);
@@ -326,7 +369,7 @@ pub fn step_in_place(
     let on = cell_in(request);
     let job = job_in(request);
     match kind {
-        1 => open_job(next, free, numbers, leads, sets),
+        1 => open_job(next, free, numbers, leads, sets, ports, job.0),
         2 => step_job(next, free, numbers, leads, sets, Deed::Read, job, on, true),
         3 => step_job(next, free, numbers, leads, sets, Deed::Write, job, on, true),
         4 => end_job(next, free, numbers, leads, sets, job),
@@ -346,9 +389,10 @@ pub fn late_in_place(
     numbers: &mut [u32; 32],
     leads: &mut [u32; 32],
     sets: &mut [u64; 512],
+    ports: &mut [u32; 3],
     asked: [u8; 8],
 ) -> Moved
-    ensures { λ r. ⌜ Lates (lent next free (now (numbers .entry)) (now (leads .entry)) (now (sets .entry))) (asks (request-of asked)) r (now (numbers .exit)) (now (leads .exit)) (now (sets .exit)) ⌝ }
+    ensures { λ r. ⌜ Lates (lent next free (now (numbers .entry)) (now (leads .entry)) (now (sets .entry)) (now (ports .entry))) (asks (request-of asked)) r (now (numbers .exit)) (now (leads .exit)) (now (sets .exit)) (now (ports .exit)) ⌝ }
 {
     if asked[1] != 0 {
         return refused(next, free, Answer::Malformed);
@@ -357,7 +401,7 @@ pub fn late_in_place(
     let on = cell_in(asked);
     let by = job_in(asked);
     match kind {
-        1 => open_job(next, free, numbers, leads, sets),
+        1 => open_job(next, free, numbers, leads, sets, ports, by.0),
         2 => step_job(next, free, numbers, leads, sets, Deed::Read, by, on, false),
         5 => abandon_job(next, free, numbers, leads, sets, by),
         _ => refused(next, free, Answer::Malformed),
@@ -374,7 +418,7 @@ pub fn publish_in_place(
     job: JobNumber,
     cells: CellSet,
 ) -> Moved
-    ensures { λ r. ⌜ Lates (lent next free (now (numbers .entry)) (now (leads .entry)) (now (sets .entry))) (publishes (job .0) (cells .words)) r (now (numbers .exit)) (now (leads .exit)) (now (sets .exit)) ⌝ }
+    ensures { λ r. ⌜ ((ports : List ℕ) → Lates (lent next free (now (numbers .entry)) (now (leads .entry)) (now (sets .entry)) ports) (publishes (job .0) (cells .words)) r (now (numbers .exit)) (now (leads .exit)) (now (sets .exit)) ports) ⌝ }
 {
     let at = slot_for(free, numbers, job);
     if 32 <= at {

@@ -34,6 +34,7 @@ fn run(
     numbers: &mut [u32; 32],
     leads: &mut [u32; 32],
     sets: &mut [u64; 512],
+    ports: &mut [u32; 3],
     buf: &mut [u8],
     out: &mut [u8],
 ) {
@@ -56,7 +57,17 @@ fn run(
         if !more || 32768 <= waiting {
             let left = waiting % 8;
             let whole = waiting - left;
-            let done = lines::lines(place, next, free, numbers, leads, sets, &buf[..whole], out);
+            let done = lines::lines(
+                place,
+                next,
+                free,
+                numbers,
+                leads,
+                sets,
+                ports,
+                &buf[..whole],
+                out,
+            );
             if !done.room {
                 return;
             }
@@ -80,6 +91,7 @@ fn main() {
     let mut numbers = state.numbers;
     let mut leads = state.leads;
     let mut sets = state.sets;
+    let mut ports = state.ports;
     let mut space = io::large_buffer();
     let mut room = [0u8; 360448];
     run(
@@ -88,6 +100,7 @@ fn main() {
         &mut numbers,
         &mut leads,
         &mut sets,
+        &mut ports,
         &mut space,
         &mut room,
     );

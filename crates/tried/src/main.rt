@@ -293,9 +293,14 @@ fn request(kind: u64, byte1: u64, cell: u64, job: u64) -> [u8; 8] {
     ]
 }
 
+// Have the three ports the same slots?
+fn same_ports(a: State, b: State) -> bool {
+    (a.ports[0] == b.ports[0]) & (a.ports[1] == b.ports[1]) & (a.ports[2] == b.ports[2])
+}
+
 // Are two states the same, number by number? Each slot has 16 words of the sets.
 fn same_state(a: State, b: State) -> bool {
-    let mut same = (a.next == b.next) & (a.free == b.free);
+    let mut same = (a.next == b.next) & (a.free == b.free) & same_ports(a, b);
     let mut i: usize = 0;
     while i < 512 {
         let slot = i / 16;
@@ -326,12 +331,14 @@ fn in_place(state: State, asked: [u8; 8]) -> Stepped {
     let mut numbers = state.numbers;
     let mut leads = state.leads;
     let mut sets = state.sets;
+    let mut ports = state.ports;
     let moved = arbiter::step_in_place(
         state.next,
         state.free,
         &mut numbers,
         &mut leads,
         &mut sets,
+        &mut ports,
         asked,
     );
     let answer = moved.answer;
@@ -342,6 +349,7 @@ fn in_place(state: State, asked: [u8; 8]) -> Stepped {
             numbers: numbers,
             leads: leads,
             sets: sets,
+            ports: ports,
         },
         answer: answer,
     }
@@ -410,7 +418,7 @@ fn row_of(line: &[u8], before: Turn) -> Turn {
 
 // ---- states
 
-// A state with that next number: all ones, or with no slot open and nothing held.
+// A state with that next number: all ones, every slot of every port too, or with no slot open and nothing held.
 fn begin(next: u64, full: bool) -> State {
     if full {
         return State {
@@ -419,6 +427,7 @@ fn begin(next: u64, full: bool) -> State {
             numbers: [0xffff_ffff; 32],
             leads: [0xffff_ffff; 32],
             sets: [0xffff_ffff_ffff_ffff; 512],
+            ports: [0xffff_ffff; 3],
         };
     }
     let mut state = State::fresh(JobNumber((next % 4294967296) as u32));
@@ -518,6 +527,18 @@ fn cells_of(line: &[u8], at: usize, state: State) -> Edited {
     Edited {
         state: edited,
         fine: (cells.end == line.len()) & (cells.value < 256),
+    }
+}
+
+// The slots of a port.
+fn ports_of(line: &[u8], at: usize, state: State) -> Edited {
+    let port = field(line, at, 2);
+    let slots = field(line, port.end, 4294967295);
+    let mut edited = state;
+    edited.ports[(port.value % 3) as usize] = (slots.value % 4294967296) as u32;
+    Edited {
+        state: edited,
+        fine: slots.end == line.len(),
     }
 }
 
@@ -720,6 +741,8 @@ fn state_line(line: &[u8], value: u64, at: usize, before: Turn) -> Turn {
         0x726f77 => written(before, rows_of(line, at, state)),
         // cells
         0x63656c6c73 => written(before, cells_of(line, at, state)),
+        // port
+        0x706f7274 => written(before, ports_of(line, at, state)),
         // left
         0x6c656674 => left_of(line, at, before),
         _ => row_of(line, before),
@@ -848,6 +871,7 @@ fn tail_of(count: usize)
     let mut numbers = [0u32; 32];
     let mut leads = [0u32; 32];
     let mut sets = [0u64; 512];
+    let mut ports = [0u32; 3];
     let mut out = [0u8; 128];
     let w = lines::lines(
         0,
@@ -856,6 +880,7 @@ fn tail_of(count: usize)
         &mut numbers,
         &mut leads,
         &mut sets,
+        &mut ports,
         &bytes[0..count],
         &mut out,
     );

@@ -11,7 +11,7 @@ use native.Mathlib.Omega.{arith}
 use lib.ListN.{length}
 use Rattle.graph.specs.Lists.{_∈_, Before}
 use Rattle.history.specs.Events.{Kind, write, add, does, Event, History, opened, kept, Step, kept-steps}
-use Rattle.history.specs.Replies.{Request, a-publish, want, event-of, reply, after, history-of}
+use Rattle.history.specs.Replies.{Request, a-publish, want, event-of, Book, reply, after, history-of}
 use Rattle.history_laws.specs.ReplyLaws.{as-kind, after-granted}
 use Rattle.history.specs.Turns.{Turns}
 use Rattle.history.specs.Orders.{layout, Accepted}
@@ -147,11 +147,11 @@ granted-listed first rs lent few few-jobs room =
     gives-exactly (log-of h) lent h (granted-read first rs few few-jobs) room .1 (r .0, r .2)
 
 -- a publish (kind 6) that is granted stands in the log as its two records, the write of its cell and the end of its job
-pub publish-logged : (first : ℕ) (h : History) (r : Request) → reply first h (as-kind 6 r) .code ≡ 0
-    → log-of (after first h (as-kind 6 r)) ≡ log-of h ++ (record-of (Event.steps write (r .job) (r .cell)) ++ record-of (Event.ends (r .job)))
+pub publish-logged : (b : Book) (h : History) (r : Request) → reply b h (as-kind 6 r) .code ≡ 0
+    → log-of (after b h (as-kind 6 r)) ≡ log-of h ++ (record-of (Event.steps write (r .job) (r .cell)) ++ record-of (Event.ends (r .job)))
 unfolding event-of
-publish-logged first h r z =
-    ap log-of (after-granted first h (as-kind 6 r) a-publish (unfold want in refl) z) ∙ log-append h (Event.steps write (r .job) (r .cell) ∷ Event.ends (r .job) ∷ [])
+publish-logged b h r z =
+    ap log-of (after-granted b h (as-kind 6 r) a-publish (unfold want in refl) z) ∙ log-append h (Event.steps write (r .job) (r .cell) ∷ Event.ends (r .job) ∷ [])
 
 -- a log read back: the bytes of a history in turn, within the sizes, are that history
 pub log-reads-back : (h : History) → Turns h → Sized h → read-log (log-of h) ≡ events h

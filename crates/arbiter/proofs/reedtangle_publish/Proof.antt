@@ -5,7 +5,7 @@ use Rattle.arbiter.proofs.reedtangle_publish.Statement.{statement}
 use Rattle.arbiter.proofs.reedtangle_publish.Tie as tie
 
 returns : tie.Need-returns
-returns c = packs-late (c .before .publish-in-place .ensures) (c .in-one .ensures)
+returns c = λ ports. packs-late (c .before .publish-in-place .ensures ports) (c .in-one .ensures)
 
 pub reedtangle-publish-spec : {M : Type 1} → statement M
 reedtangle-publish-spec = tie.close (tie.spec (λ c κs. search needs) (λ c κs. search needs) returns)

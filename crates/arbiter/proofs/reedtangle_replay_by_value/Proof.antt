@@ -11,7 +11,7 @@ use Rattle.arbiter.proofs.reedtangle_replay_by_value.Tie as tie
 
 abbrev Inv-loop : tie.InvT-loop
 Inv-loop first requests answers₀ written whole state₀ i₀ answers state i =
-    Replaying first requests answers₀ i (lent (state .next) (state .free) (state .numbers) (state .leads) (state .sets)) answers
+    Replaying first requests answers₀ i (lent (state .next) (state .free) (state .numbers) (state .leads) (state .sets) (state .ports)) answers
 
 abbrev μ-loop : tie.MeasureT-loop
 μ-loop first requests answers₀ written whole state₀ i₀ answers state i = whole - i

@@ -1,7 +1,8 @@
--- `batch::run` meets its contract. The loop's invariant: so many items are granted (`Running`). The measure is the items left. Assumes nothing.
+-- `batch::run` meets its contract. The loop's invariant: so many items are granted (`Running`), whatever the ports are. The measure is the items left. Assumes nothing.
 use mathlib.Core.Path.{_≡_, refl}
 use mathlib.Core.Logic.{⊎-elim}
-use Prim.Native.Nat.{_-_}
+use mathlib.Core.List.{List, []}
+use Prim.Native.Nat.{ℕ, _-_}
 use native.Mathlib.Omega.{arith}
 use borrow.Author.Needs.{needs}
 use Rattle.graph.specs.Lists.{other}
@@ -12,16 +13,16 @@ use Rattle.batch.proofs.run.Tie as tie
 
 abbrev Inv-loop : tie.InvT-loop
 Inv-loop next free numbers₀ leads₀ sets₀ requests count i₀ numbers leads sets i =
-    Running (lent next free numbers₀ leads₀ sets₀) requests i (lent next free numbers leads sets)
+    (ports : List ℕ) → Running (lent next free numbers₀ leads₀ sets₀ ports) requests i (lent next free numbers leads sets ports)
 
 abbrev μ-loop : tie.MeasureT-loop
 μ-loop next free numbers₀ leads₀ sets₀ requests count i₀ numbers leads sets i = count - i
 
 loop-holds : tie.Need-loop-holds Inv-loop μ-loop
-loop-holds c = run-start
+loop-holds c = λ ports. run-start
 
 refusal-requires : tie.Need-refusal-requires Inv-loop μ-loop
-refusal-requires c κs = other (c .if1 .taken) (c .before .step-item .ensures .known)
+refusal-requires c κs = other (c .if1 .taken) (c .before .step-item .ensures [] .known)
 
 -- the item, and the test of the loop before it
 abbrev item : tie.After-step-item Inv-loop μ-loop → tie.After-item-at Inv-loop μ-loop
@@ -31,16 +32,16 @@ returns-refused : tie.Need-returns Inv-loop μ-loop
 returns-refused c =
     let s = c .before .before in
     let n = item s in
-    run-stop (n .before .before .loop .inv) (n .before .loop-test .taken) (n .item-at .ensures) (s .step-item .ensures) (c .before .if1 .taken) (c .refusal .ensures)
+    λ ports. run-stop (n .before .before .loop .inv ports) (n .before .loop-test .taken) (n .item-at .ensures) (s .step-item .ensures ports) (c .before .if1 .taken) (c .refusal .ensures)
 
 loop-again : tie.Need-loop-again Inv-loop μ-loop
 loop-again c =
     let s = c .before in
     let n = item s in
-    run-turn (n .before .before .loop .inv) (n .before .loop-test .taken) (n .item-at .ensures) (s .step-item .ensures) (c .if1 .left)
+    λ ports. run-turn (n .before .before .loop .inv ports) (n .before .loop-test .taken) (n .item-at .ensures) (s .step-item .ensures ports) (c .if1 .left)
 
 returns-granted : tie.Need-returns-2 Inv-loop μ-loop
-returns-granted c = run-end (c .before .loop .inv) refl (c .loop-test .left)
+returns-granted c = λ ports. run-end (c .before .loop .inv ports) refl (c .loop-test .left)
 
 pub run-spec : {M : Type 1} → statement M
 run-spec =

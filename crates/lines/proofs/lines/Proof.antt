@@ -10,70 +10,25 @@ use Rattle.lines.proofs.lines.Statement.{statement}
 use Rattle.lines.proofs.lines.Tie as tie
 
 abbrev Inv-loop : tie.InvT-loop
-Inv-loop place next free numbers₀ leads₀ sets₀ input out₀ count now-next₀ now-free₀ i₀ at₀ numbers leads sets out now-next now-free i at =
-    (Run place (lent next free numbers₀ leads₀ sets₀) input out₀ (lent now-next now-free numbers leads sets) out i at) × (i ≤ length input / 8)
+Inv-loop place next free numbers₀ leads₀ sets₀ ports₀ input out₀ count now-next₀ now-free₀ i₀ at₀ numbers leads sets ports out now-next now-free i at =
+    (Run place (lent next free numbers₀ leads₀ sets₀ ports₀) input out₀ (lent now-next now-free numbers leads sets ports) out i at) × (i ≤ length input / 8)
 
 abbrev μ-loop : tie.MeasureT-loop
-μ-loop place next free numbers₀ leads₀ sets₀ input out₀ count now-next₀ now-free₀ i₀ at₀ numbers leads sets out now-next now-free i at = length input / 8 - i
+μ-loop place next free numbers₀ leads₀ sets₀ ports₀ input out₀ count now-next₀ now-free₀ i₀ at₀ numbers leads sets ports out now-next now-free i at = length input / 8 - i
 
 returns : tie.Need-returns Inv-loop μ-loop
 returns c =
-    let a = c .before .before .before .args in writes-no-place (a .next) (a .free) (a .numbers .now) (a .leads .now) (a .sets .now) (c .if1 .taken)
+    let a = c .before .before .before .args in writes-no-place (a .next) (a .free) (a .numbers .now) (a .leads .now) (a .sets .now) (a .ports .now) (c .if1 .taken)
 
 returns-2 : tie.Need-returns-2 Inv-loop μ-loop
 returns-2 c =
-    let a = c .before .before .before .before .args in writes-no-room (a .next) (a .free) (a .numbers .now) (a .leads .now) (a .sets .now) (c .if2 .taken)
+    let a = c .before .before .before .before .args in writes-no-room (a .next) (a .free) (a .numbers .now) (a .leads .now) (a .sets .now) (a .ports .now) (c .if2 .taken)
 
 loop-holds : tie.Need-loop-holds Inv-loop μ-loop
 loop-holds c = (run-first _ _ _ _, omega arith)
 
 mul-from : tie.Need-mul-from Inv-loop μ-loop
 mul-from c = omega arith
-
-shared-slice-read-t23 : tie.Need-shared-slice-read-t23 Inv-loop μ-loop
-shared-slice-read-t23 c = omega arith
-
-add-t24 : tie.Need-add-t24 Inv-loop μ-loop
-add-t24 c = omega arith
-
-shared-slice-read-t26 : tie.Need-shared-slice-read-t26 Inv-loop μ-loop
-shared-slice-read-t26 c = omega arith
-
-add-t27 : tie.Need-add-t27 Inv-loop μ-loop
-add-t27 c = omega arith
-
-shared-slice-read-t29 : tie.Need-shared-slice-read-t29 Inv-loop μ-loop
-shared-slice-read-t29 c = omega arith
-
-add-t30 : tie.Need-add-t30 Inv-loop μ-loop
-add-t30 c = omega arith
-
-shared-slice-read-t32 : tie.Need-shared-slice-read-t32 Inv-loop μ-loop
-shared-slice-read-t32 c = omega arith
-
-add-t33 : tie.Need-add-t33 Inv-loop μ-loop
-add-t33 c = omega arith
-
-shared-slice-read-t35 : tie.Need-shared-slice-read-t35 Inv-loop μ-loop
-shared-slice-read-t35 c = omega arith
-
-add-t36 : tie.Need-add-t36 Inv-loop μ-loop
-add-t36 c = omega arith
-
-shared-slice-read-t38 : tie.Need-shared-slice-read-t38 Inv-loop μ-loop
-shared-slice-read-t38 c = omega arith
-
-add-t39 : tie.Need-add-t39 Inv-loop μ-loop
-add-t39 c = omega arith
-
-shared-slice-read-t41 : tie.Need-shared-slice-read-t41 Inv-loop μ-loop
-shared-slice-read-t41 c = omega arith
-
-add-t42 : tie.Need-add-t42 Inv-loop μ-loop
-add-t42 c = omega arith
-
-shared-slice-read-t44 : tie.Need-shared-slice-read-t44 Inv-loop μ-loop
-shared-slice-read-t44 c = omega arith
 
 step-in-place-requires : tie.Need-step-in-place-requires Inv-loop μ-loop
 step-in-place-requires c κs = search needs
@@ -83,7 +38,7 @@ add-put-line c = omega arith
 
 put-line-requires : tie.Need-put-line-requires Inv-loop μ-loop
 put-line-requires c κs =
-    let l = c .before .before .before .before .before .before .before .before .before .before .before .before .before in room-line (l .before .loop .inv .0) (l .loop-test .taken) (l .before .before .if2 .left)
+    let l = c .before .before .before .before .before .before .before .before .before .before .before .before .before .before in room-line (l .before .loop .inv .0) (l .loop-test .taken) (l .before .before .if2 .left)
 
 add-i : tie.Need-add-i Inv-loop μ-loop
 add-i c = omega arith
@@ -93,7 +48,7 @@ loop-less c = omega arith
 
 loop-again : tie.Need-loop-again Inv-loop μ-loop
 loop-again c =
-    let l = c .before .before .before .before .before .before .before .before .before .before .before .before .before .before .before .before in (
+    let l = c .before .before .before .before .before .before .before .before .before .before .before .before .before .before .before .before .before in (
       run-next (l .before .loop .inv .0) (l .loop-test .taken) (c .before .before .before .before .step-in-place .ensures) (c .before .before .put-line .ensures .0)
           (c .before .before .put-line .ensures .1),
       omega arith,
@@ -117,21 +72,8 @@ lines-spec =
     returns-2
     loop-holds
     mul-from
-    shared-slice-read-t23
-    add-t24
-    shared-slice-read-t26
-    add-t27
-    shared-slice-read-t29
-    add-t30
-    shared-slice-read-t32
-    add-t33
-    shared-slice-read-t35
-    add-t36
-    shared-slice-read-t38
-    add-t39
-    shared-slice-read-t41
-    add-t42
-    shared-slice-read-t44
+    (λ c. omega arith) (λ c. omega arith) (λ c. omega arith) (λ c. omega arith) (λ c. omega arith) (λ c. omega arith) (λ c. omega arith) (λ c. omega arith)
+    (λ c. omega arith) (λ c. omega arith) (λ c. omega arith) (λ c. omega arith) (λ c. omega arith) (λ c. omega arith) (λ c. omega arith)
     step-in-place-requires
     add-put-line
     put-line-requires

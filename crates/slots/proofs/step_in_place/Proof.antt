@@ -12,57 +12,57 @@ abbrev well : tie.After-job-in → tie.Else1
 well c = c .before .before
 
 abbrev held : tie.Else1 → Held
-held e = let a = e .before .args in lent (a .next) (a .free) (a .numbers .now) (a .leads .now) (a .sets .now)
+held e = let a = e .before .args in lent (a .next) (a .free) (a .numbers .now) (a .leads .now) (a .sets .now) (a .ports .now)
 
 returns-byte : tie.Need-returns
-returns-byte c = steps-byte (c .before .before .args .t6) (c .before .if1 .taken) (c .refused .ensures)
+returns-byte c = steps-byte (c .before .before .args .t7) (c .before .if1 .taken) (c .refused .ensures)
 
 returns-open : tie.Need-returns-2
 returns-open c =
-    let m = c .before .before .before .before in
+    let m = c .before .before .before .before .before in
     let e = well (m .before) in
-    steps-open {h = held e} (e .before .args .t6) (e .if1 .left) (m .match .keys1) (c .open-job .ensures)
+    steps-open {h = held e} (e .before .args .t7) (e .if1 .left) (m .match .keys1) (m .before .job-in .ensures) (c .open-job .ensures)
 
 returns-read : tie.Need-returns-3
 returns-read c =
     let m = c .before .before .before .before in
     let e = well (m .before) in
-    steps-step {h = held e} (e .before .args .t6) (e .if1 .left) Read (m .match .keys2) (m .before .job-in .ensures) (m .before .before .cell-in .ensures) (asks-does (c .step-job .ensures))
+    steps-step {h = held e} (e .before .args .t7) (e .if1 .left) Read (m .match .keys2) (m .before .job-in .ensures) (m .before .before .cell-in .ensures) (asks-does {h = held e} (c .step-job .ensures (e .before .args .ports .now)))
 
 returns-write : tie.Need-returns-4
 returns-write c =
     let m = c .before .before .before .before in
     let e = well (m .before) in
-    steps-step {h = held e} (e .before .args .t6) (e .if1 .left) Write (m .match .keys3) (m .before .job-in .ensures) (m .before .before .cell-in .ensures) (asks-does (c .step-job2 .ensures))
+    steps-step {h = held e} (e .before .args .t7) (e .if1 .left) Write (m .match .keys3) (m .before .job-in .ensures) (m .before .before .cell-in .ensures) (asks-does {h = held e} (c .step-job2 .ensures (e .before .args .ports .now)))
 
 returns-end : tie.Need-returns-5
 returns-end c =
     let m = c .before .before .before .before in
     let e = well (m .before) in
-    steps-end {h = held e} (e .before .args .t6) (e .if1 .left) (m .match .keys4) (m .before .job-in .ensures) (c .end-job .ensures)
+    steps-end {h = held e} (e .before .args .t7) (e .if1 .left) (m .match .keys4) (m .before .job-in .ensures) (c .end-job .ensures (e .before .args .ports .now))
 
 returns-abandon : tie.Need-returns-6
 returns-abandon c =
     let m = c .before .before .before .before in
     let e = well (m .before) in
-    steps-abandon {h = held e} (e .before .args .t6) (e .if1 .left) (m .match .keys5) (m .before .job-in .ensures) (c .abandon-job .ensures)
+    steps-abandon {h = held e} (e .before .args .t7) (e .if1 .left) (m .match .keys5) (m .before .job-in .ensures) (c .abandon-job .ensures (e .before .args .ports .now))
 
 returns-publish : tie.Need-returns-7
 returns-publish c =
     let m = c .before .before .before .before in
     let e = well (m .before) in
-    steps-publish {h = held e} (e .before .args .t6) (e .if1 .left) (m .match .keys6) (m .before .job-in .ensures) (m .before .before .cell-in .ensures) (c .publish-job .ensures)
+    steps-publish {h = held e} (e .before .args .t7) (e .if1 .left) (m .match .keys6) (m .before .job-in .ensures) (m .before .before .cell-in .ensures) (c .publish-job .ensures (e .before .args .ports .now))
 
 returns-add : tie.Need-returns-8
 returns-add c =
     let m = c .before .before .before .before in
     let e = well (m .before) in
-    steps-step {h = held e} (e .before .args .t6) (e .if1 .left) Add (m .match .keys7) (m .before .job-in .ensures) (m .before .before .cell-in .ensures) (asks-does (c .step-job3 .ensures))
+    steps-step {h = held e} (e .before .args .t7) (e .if1 .left) Add (m .match .keys7) (m .before .job-in .ensures) (m .before .before .cell-in .ensures) (asks-does {h = held e} (c .step-job3 .ensures (e .before .args .ports .now)))
 
 returns-kind : tie.Need-returns-9
 returns-kind c =
     let e = well (c .before .before) in
-    steps-kind {h = held e} (e .before .args .t6) (e .if1 .left) (c .before .match .rest) (c .refused2 .ensures)
+    steps-kind {h = held e} (e .before .args .t7) (e .if1 .left) (c .before .match .rest) (c .refused2 .ensures)
 
 pub step-in-place-spec : {M : Type 1} → statement M
 step-in-place-spec =

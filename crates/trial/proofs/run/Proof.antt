@@ -18,11 +18,11 @@ counts : (p w : ℕ) → p < most-place → w < 2 ^ 64 → Fits w64 (p + (w - w 
 counts p w h k = record { fits = omega arith }
 
 abbrev Inv-loop : tie.InvT-loop
-Inv-loop first slots numbers₀ leads₀ sets₀ buf₀ out₀ n next₀ free₀ place₀ waiting₀ turns₀ more₀ numbers leads sets buf out next free place waiting turns more =
+Inv-loop first slots numbers₀ leads₀ sets₀ ports₀ buf₀ out₀ n next₀ free₀ place₀ waiting₀ turns₀ more₀ numbers leads sets ports buf out next free place waiting turns more =
     (waiting ≤ length buf) × (length buf ≡ length buf₀) × (length out ≡ length out₀) × (length buf < 2 ^ 64)
 
 abbrev μ-loop : tie.MeasureT-loop
-μ-loop first slots numbers₀ leads₀ sets₀ buf₀ out₀ n next₀ free₀ place₀ waiting₀ turns₀ more₀ numbers leads sets buf out next free place waiting turns more =
+μ-loop first slots numbers₀ leads₀ sets₀ ports₀ buf₀ out₀ n next₀ free₀ place₀ waiting₀ turns₀ more₀ numbers leads sets ports buf out next free place waiting turns more =
     turns
 
 header-requires : tie.Need-header-requires Inv-loop μ-loop
@@ -97,16 +97,16 @@ returns-3 c = search needs
 add-place : tie.Need-add-place Inv-loop μ-loop
 add-place c =
     let e = c .before .before .before in
-    let l = c .before .before .before .before .before .before .before .before .before .before .before .before .before .before .before .before .before .before .before .before .loop in
+    let l = c .before .before .before .before .before .before .before .before .before .before .before .before .before .before .before .before .before .before .before .before .before .loop in
     let p : l .place < most-place = roomy-place _ _ _ (sym (e .before .before .before .before .lines .ensures .room) ∙ not-false _ (e .if5 .left)) in
-    let w : l .waiting + c .before .before .before .before .before .before .before .before .before .before .before .before .before .before .before .before .read-behind .result ≤ length (l .buf) = c .before .before .before .before .before .before .before .before .before .before .before .before .before .before .before .before .read-behind .ensures in
-    counts (l .place) (l .waiting + c .before .before .before .before .before .before .before .before .before .before .before .before .before .before .before .before .read-behind .result) p (omega arith)
+    let w : l .waiting + c .before .before .before .before .before .before .before .before .before .before .before .before .before .before .before .before .before .read-behind .result ≤ length (l .buf) = c .before .before .before .before .before .before .before .before .before .before .before .before .before .before .before .before .before .read-behind .ensures in
+    counts (l .place) (l .waiting + c .before .before .before .before .before .before .before .before .before .before .before .before .before .before .before .before .before .read-behind .result) p (omega arith)
 
 to-start-requires : tie.Need-to-start-requires Inv-loop μ-loop
 to-start-requires c κs = search needs
 
 loop-less : tie.Need-loop-less Inv-loop μ-loop
-loop-less c = omega (arith, ltb-true 0 (c .before .before .before .before .before .before .before .before .before .before .before .before .before .before .before .before .before .before .before .before .before .before .before .before .loop .turns) (c .before .before .before .before .before .before .before .before .before .before .before .before .before .before .before .before .before .before .before .before .before .before .if2 .taken))
+loop-less c = omega (arith, ltb-true 0 (c .before .before .before .before .before .before .before .before .before .before .before .before .before .before .before .before .before .before .before .before .before .before .before .before .before .loop .turns) (c .before .before .before .before .before .before .before .before .before .before .before .before .before .before .before .before .before .before .before .before .before .before .before .if2 .taken))
 
 loop-again : tie.Need-loop-again Inv-loop μ-loop
 loop-again c = search needs

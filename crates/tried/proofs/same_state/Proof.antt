@@ -11,6 +11,9 @@ Inv-loop a b same₀ i₀ same i = i ≤ 512
 abbrev μ-loop : tie.MeasureT-loop
 μ-loop a b same₀ i₀ same i = 512 - i
 
+same-ports-requires : tie.Need-same-ports-requires Inv-loop μ-loop
+same-ports-requires c κs = search needs
+
 loop-holds : tie.Need-loop-holds Inv-loop μ-loop
 loop-holds c = search needs
 
@@ -68,6 +71,7 @@ same-state-spec =
     (tie.spec
     Inv-loop
     μ-loop
+    same-ports-requires
     loop-holds
     mul-same
     element-copy-out-same
