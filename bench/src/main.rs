@@ -8,6 +8,7 @@ mod judge_fast;
 mod late;
 mod late_text;
 mod lines;
+mod locks;
 mod logs;
 mod ours;
 mod programs;
@@ -23,6 +24,8 @@ bench verdicts [SEED [LOGS]]              the checker and the lister against two
 bench tried FILE                          what the tried histories expect
 bench recount FILE                        what the program recount is to write, of the same text
 bench late [SEED [ASKS]]                  the second profile's arbiter against two others
+bench locks [SEED [WINDOWS [PROGRAM]]]    the run by locks, the step and the program, against another
+bench locks-text FILE                     what the program locked prints for a file of requests
 bench desk FILE                           what the text of the program desk expects, and its output
 bench desk-make SEED WINDOWS ASKS         the streams in that text
 bench programs [FOLDER [SEED [LOGS]]]     the built programs on made files
@@ -46,6 +49,12 @@ fn main() {
         Some("tried") => tried::run(words.get(1).expect("the file of tried histories")),
         Some("recount") => recounted::run(words.get(1).expect("the file of tried histories")),
         Some("late") => late::run(number(1, 1), number(2, 4_000_000)),
+        Some("locks") => locks::run(
+            number(1, 1),
+            number(2, 3_000),
+            words.get(3).map_or("../target/bin/locked", |w| w),
+        ),
+        Some("locks-text") => locks::text(words.get(1).expect("a file of requests")),
         Some("desk") => late_text::run(words.get(1).expect("the file of histories")),
         Some("desk-make") => late_text::make(number(1, 1), number(2, 3), number(3, 160)),
         Some("programs") => programs::run(

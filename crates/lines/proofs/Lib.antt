@@ -1,3 +1,3 @@
-mod PutLaws
-mod RunLaws
+pub mod PutLaws
+pub mod RunLaws
 pub mod OneAnswer

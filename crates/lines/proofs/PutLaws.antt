@@ -1,23 +1,21 @@
--- Bytes put at the start of a list, a number where there are 20 bytes of room, and the bytes of a line and of the last line.
+-- Bytes put at the start of a list and at a place of it, a number where there are 20 bytes of room or 10, and the bytes of a line and of the last line.
 -- Assumes nothing.
-use mathlib.Core.Path.{_≡_, refl, sym, ap, subst, _∙_}
+use mathlib.Core.Path.{_≡_, refl, sym, ap, ap₂, subst, _∙_}
 use mathlib.Core.Bool.{Bool, true, false}
 use mathlib.Core.List.{List, [], _∷_, _++_, append-assoc}
-use Prim.Native.Nat.{ℕ, _+_, _^_, _≤_, _<_}
+use Prim.Native.Nat.{ℕ, _+_, _/_, _^_, _≤_, _<_}
 use native.Mathlib.Omega.{arith}
-use lib.Dec.{lit<}
-use lib.ListN.{length, drop, set, length-append, length-set, take-append-drop}
-use borrow.Author.Tests.{eq-eqb, ne-eqb}
+use lib.Dec.{leb}
+use lib.ListN.{length, drop, set, length-append, take-append-drop}
+use borrow.Author.Tests.{eq-eqb, ne-eqb, le-leb}
 use Rattle.text.specs.Decimal.{decimal}
-use Rattle.text.specs.DecimalLaws.{decimal-digit, decimal-length}
+use Rattle.text.specs.DecimalLaws.{decimal-length, leading-length}
 use Rattle.text.specs.Lays.{Lays}
-use Rattle.text.specs.Puts.{Puts, puts-byte, puts-then, lays-puts}
+use Rattle.text.specs.LaysLaws.{lays-room}
+use Rattle.text.specs.Puts.{Puts, puts-byte, puts-then, puts-lays, lays-puts}
 use Rattle.history.specs.Replies.{Reply}
-use Rattle.slots.specs.Lent.{numbered}
-use Rattle.slots.specs.declared.Answer.{Answer}
-use Rattle.slots.specs.declared.Answer.the-variants.{Granted, Malformed, NoCell, NotOpen, HasWritten, Full, Spent, Circle, NoPort, PortFull}
 use Rattle.lines.specs.Lines.{line, tail-line}
-use Rattle.lines.specs.Writes.{Starts}
+use Rattle.lines.specs.Writes.{Starts, PutsAt}
 
 -- bytes put at the start, where there is room
 pub puts-starts : {b : Bool} {r : ℕ} {x o p : List ℕ} → b ≡ true → Puts 0 x o p r → Starts b x o p r
@@ -39,6 +37,25 @@ starts-none {b} {x} {o} f = record { count = rw f; content = rw f; within = omeg
 pub starts-empty : {b : Bool} {x o : List ℕ} → b ≡ true → x ≡ [] → Starts b x o o 0
 starts-empty {b} {x} {o} t e = record { count = rw (t, e); content = rw (t, e); within = omega arith }
 
+-- ---- at a place
+
+pub puts-at : {b : Bool} {at r : ℕ} {x o p : List ℕ} → b ≡ true → Puts at x o p r → r ≤ length o → PutsAt b at x o p r
+puts-at {b} {at} {r} {x} {o} {p} t a h =
+    let l = puts-lays a h in
+    let e = lays-room at x o (omega (arith, a .past)) in
+    record { past = rw t (rw e at (l .past)); content = rw t (rw e at (l .content)) }
+
+pub puts-at-none : {b : Bool} {at : ℕ} {x o : List ℕ} → b ≡ false → PutsAt b at x o o at
+puts-at-none f = record { past = rw f; content = rw f }
+
+pub at-puts : {b : Bool} {at r : ℕ} {x o p : List ℕ} → b ≡ true → PutsAt b at x o p r → r ≤ length o → Puts at x o p r
+at-puts {b} {at} {r} {x} {o} {p} t a h =
+    let e : r ≡ at + length x = rw t at (a .past) in
+    let q = lays-room at x o (omega arith) in
+    lays-puts (record { past = rw q e; content = rw q (rw t at (a .content)) }) (omega arith)
+
+-- ---- a number
+
 -- a number of 64 bits has room in 20 bytes
 pub record Numbered (at n : ℕ) (out out′ : List ℕ) (r : ℕ) : Type 0 where
   pub put : Puts at (decimal n) out out′ r
@@ -50,47 +67,38 @@ number-put {at} {n} h k a =
     let p = lays-puts a (omega arith) in
     record { put = p; most = omega (arith, p .past) }
 
+-- one of 32 bits in 10
+pub record Short (at n : ℕ) (out out′ : List ℕ) (r : ℕ) : Type 0 where
+  pub put : Puts at (decimal n) out out′ r
+  pub most : r ≤ at + 10
+
+short-length : (n : ℕ) → n < 2 ^ 32 → length (decimal n) ≤ 10
+unfolding decimal
+short-length n h = let i = leading-length 9 (n / 10) (omega arith) in simp length-append (omega arith)
+
+pub short-put : {at n r : ℕ} {o p : List ℕ} → n < 2 ^ 32 → at + 10 ≤ length o → Lays at (decimal n) o p r → Short at n o p r
+short-put {at} {n} h k a =
+    let l = short-length n h in
+    let p = lays-puts a (omega arith) in
+    record { put = p; most = omega (arith, p .past) }
+
 -- ---- a line
 
-pub code-small : (a : Answer) → numbered a .code < 10
-code-small (Granted j) = lit< tt
-code-small Malformed = lit< tt
-code-small NoCell = lit< tt
-code-small NotOpen = lit< tt
-code-small HasWritten = lit< tt
-code-small Full = lit< tt
-code-small Spent = lit< tt
-code-small Circle = lit< tt
-code-small NoPort = lit< tt
-code-small PortFull = lit< tt
-
-line-joined : (p : ℕ) (q : Reply) (k j : ℕ) → q .code < 10 → k ≡ q .code → j ≡ q .job
-    → ((((decimal p ++ 32 ∷ []) ++ (48 + k) ∷ []) ++ 32 ∷ []) ++ decimal j) ++ 10 ∷ [] ≡ line p q
+line-joined : (p k j : ℕ) → ((((decimal p ++ 32 ∷ []) ++ decimal k) ++ 32 ∷ []) ++ decimal j) ++ 10 ∷ [] ≡ line p (record { code = k; job = j })
 unfolding line
-line-joined p q k j h e f =
-    simp append-assoc
-    (ap (λ (x : List ℕ). decimal p ++ 32 ∷ (x ++ 32 ∷ (decimal j ++ 10 ∷ [])))
-    (ap (λ (c : ℕ). (48 + c) ∷ []) e ∙ sym (decimal-digit (q .code) (omega arith)))
-    ∙ ap (λ (x : ℕ). decimal p ++ 32 ∷ (decimal (q .code) ++ 32 ∷ (decimal x ++ 10 ∷ []))) f)
+line-joined p k j = simp append-assoc
 
-pub puts-line : (p : ℕ) (q : Reply) {at a b : ℕ} {o m n : List ℕ} (k j : ℕ) → q .code < 10 → k ≡ q .code → j ≡ q .job
-    → Puts at (decimal p) o m a → a + 3 ≤ length m → Puts (a + 3) (decimal j) (set (set (set m a 32) (a + 1) (48 + k)) (a + 2) 32) n b → b < length n
-    → Puts at (line p q) o (set n b 10) (b + 1)
-puts-line p q {at} {a} {b} {o} {m} {n} k j small e f x h y l =
-    let u = puts-then x (puts-byte m a 32 {r = a + 1} (omega arith) refl) in
-    let v = puts-then u (puts-byte (set m a 32) (a + 1) (48 + k) {r = a + 2} (simp length-set (omega arith)) (omega arith)) in
-    let w = puts-then v (puts-byte (set (set m a 32) (a + 1) (48 + k)) (a + 2) 32 {r = a + 3} (simp length-set (omega arith)) (omega arith)) in
-    subst (λ (z : List ℕ). Puts at z o (set n b 10) (b + 1)) (line-joined p q k j small e f)
-    (puts-then (puts-then w y) (puts-byte n b 10 l refl))
+pub puts-line : (p k j : ℕ) {at a b c : ℕ} {o m n q : List ℕ} → Puts at (decimal p) o m a → a < length m → Puts (a + 1) (decimal k) (set m a 32) n b → b < length n
+    → Puts (b + 1) (decimal j) (set n b 32) q c → c < length q → Puts at (line p (record { code = k; job = j })) o (set q c 10) (c + 1)
+puts-line p k j {at} {a} {b} {c} {o} {m} {n} {q} x h y i z l =
+    subst (λ (w : List ℕ). Puts at w o (set q c 10) (c + 1)) (line-joined p k j)
+    (puts-then (puts-then (puts-then (puts-then (puts-then x (puts-byte m a 32 h refl)) y) (puts-byte n b 32 i refl)) z) (puts-byte q c 10 l refl))
 
--- the room that is left in it
-pub room-job : {at a : ℕ} {x o m : List ℕ} (k : ℕ) → at + 44 ≤ length o → Puts at x o m a → a ≤ at + 20
-    → a + 3 + 20 ≤ length (set (set (set m a 32) (a + 1) (48 + k)) (a + 2) 32)
-room-job k h x l = simp length-set (omega (arith, x .same))
-
-pub room-end : {at a b : ℕ} {x y o m n : List ℕ} (k : ℕ) → at + 44 ≤ length o → Puts at x o m a → a ≤ at + 20
-    → Puts (a + 3) y (set (set (set m a 32) (a + 1) (48 + k)) (a + 2) 32) n b → b ≤ a + 3 + 20 → b < length n
-room-end k h x l y r = let e = simp length-set at (y .same) in omega (arith, x .same)
+-- of a reply, from what `put_reply` ensures
+pub puts-reply : (p : ℕ) (a : Reply) {k j at r : ℕ} {o q : List ℕ} → k ≡ a .code → j ≡ a .job → at + 44 ≤ length o
+    → PutsAt (leb (at + 44) (length o)) at (line p (record { code = k; job = j })) o q r → r ≤ at + 44 → Puts at (line p a) o q r
+puts-reply p a {k} {j} {at} {r} {o} {q} ek ej h w m =
+    subst (λ (x : List ℕ). Puts at x o q r) (ap₂ (λ (x y : ℕ). line p (record { code = x; job = y })) ek ej) (at-puts (le-leb (at + 44) (length o) h) w (omega arith))
 
 -- the last line
 pub puts-tail : (n : ℕ) {a b : ℕ} {o m k : List ℕ} → 0 < n → Puts 0 (116 ∷ 97 ∷ 105 ∷ 108 ∷ 32 ∷ []) o m a → Puts a (decimal n) m k b → b < length k

@@ -74,15 +74,15 @@ room-line r more fit = omega (arith, r .room, r .same)
 
 -- ---- the end
 
-is-roomy : (p : ℕ) (input out : List ℕ) → p < most-place → length input / 8 ≤ length out / 44 → roomy p input out ≡ true
+pub is-roomy : (p : ℕ) (input out : List ℕ) → p < most-place → length input / 8 ≤ length out / 44 → roomy p input out ≡ true
 unfolding roomy
 is-roomy p input out h k = rw (lt-ltb p most-place h, le-leb (length input / 8) (length out / 44) k)
 
-no-place : (p : ℕ) (input out : List ℕ) → most-place ≤ p → roomy p input out ≡ false
+pub no-place : (p : ℕ) (input out : List ℕ) → most-place ≤ p → roomy p input out ≡ false
 unfolding roomy
 no-place p input out h = rw (le-ltb p most-place h)
 
-no-room : (p : ℕ) (input out : List ℕ) → length out / 44 < length input / 8 → roomy p input out ≡ false
+pub no-room : (p : ℕ) (input out : List ℕ) → length out / 44 < length input / 8 → roomy p input out ≡ false
 unfolding roomy
 no-room p input out h =
     ap (λ (b : Bool). ltb p most-place && b) (lt-leb (length input / 8) (length out / 44) h) ∙ and-false (ltb p most-place)

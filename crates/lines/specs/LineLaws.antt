@@ -16,7 +16,7 @@ use Rattle.lines.specs.Lines.{line, lines, lines-of, header-line, tail-l
 use Rattle.lines.specs.Writes.{Starts, Writes}
 use Rattle.lines.specs.declared.Written.{Written}
 
-records-append : (a b : List ℕ) → length a % 8 ≡ 0 → records (a ++ b) ≡ records a ++ records b
+pub records-append : (a b : List ℕ) → length a % 8 ≡ 0 → records (a ++ b) ≡ records a ++ records b
 records-append (k ∷ z ∷ c ∷ d ∷ i ∷ j ∷ m ∷ n ∷ l) b h =
     ap
     (λ (rs : List Request). record { kind = k; byte1 = z; cell = c + d * 256; job = i + j * 256 + m * 65536 + n * 16777216 } ∷ rs)

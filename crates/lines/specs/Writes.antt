@@ -3,10 +3,10 @@
 use mathlib.Core.Path.{_≡_, refl}
 use mathlib.Core.Bool.{Bool, true, false, _&&_, cond}
 use mathlib.Core.List.{List, _++_}
-use Prim.Native.Nat.{ℕ, _/_, _≤_, _<_}
+use Prim.Native.Nat.{ℕ, _+_, _/_, _≤_, _<_}
 use borrow.Author.Tests.{ltb-true}
 use lib.Dec.{ltb, leb}
-use lib.ListN.{length, drop}
+use lib.ListN.{length, take, drop}
 use Rattle.history.specs.Formats.{records}
 use Rattle.held.specs.Held.{Held, after-all}
 use Rattle.slots.specs.Lent.{lent}
@@ -19,6 +19,11 @@ pub record Starts (room : Bool) (bytes out out′ : List ℕ) (r : ℕ) : Type 0
   pub count : r ≡ cond room (length bytes) 0
   pub content : out′ ≡ cond room (bytes ++ drop (length bytes) out) out
   pub within : r ≤ length out′
+
+-- the same at a place: where there is room, the bytes stand there, the rest is as it was, and r is the place past them; and where there is none, nothing moves and r is the place
+pub record PutsAt (room : Bool) (at : ℕ) (bytes out out′ : List ℕ) (r : ℕ) : Type 0 where
+  pub past : r ≡ cond room (at + length bytes) at
+  pub content : out′ ≡ cond room (take at out ++ bytes ++ drop (at + length bytes) out) out
 
 -- 44 bytes for each whole record, and a place that no line takes to the end of its type
 abbrev pub most-place : ℕ

@@ -5,7 +5,7 @@ ghost use lib.ListN.{length};
 ghost use Rattle.slots.specs.Lent.{lent, numbered};
 ghost use Rattle.text.specs.Puts.{Puts};
 ghost use Rattle.lines.specs.Lines.{line, header-line, tail-line};
-ghost use Rattle.lines.specs.Writes.{Starts, Writes};
+ghost use Rattle.lines.specs.Writes.{Starts, PutsAt, Writes};
 use slots::Answer;
 
 // What a run leaves beside the arrays: the next number, the free slots, the count of bytes written and whether there was room. Where there was not,
@@ -17,19 +17,33 @@ pub struct Written {
     pub room: bool,
 }
 
-// Puts a line at a place, and answers the place past it.
+// Puts the line of one reply at a place, where there are 44 bytes from there on, and answers the place past it. Where there are fewer nothing is put, and the place itself is answered.
+pub fn put_reply(place: u64, code: u32, job: u32, out: &mut [u8], at: usize) -> usize
+    ensures { λ r. ⌜ PutsAt (leb (at + 44) (length (now (out .entry)))) at (line place (record { code = code; job = job })) (now (out .entry)) (now (out .exit)) r ⌝ }
+    ensures { λ r. ⌜ r ≤ at + 44 ⌝ }
+{
+    if out.len() < 44 {
+        return at;
+    }
+    if out.len() - 44 < at {
+        return at;
+    }
+    let a = text::put_number(place, out, at);
+    out[a] = 32;
+    let b = text::put_number(code as u64, out, a + 1);
+    out[b] = 32;
+    let c = text::put_number(job as u64, out, b + 1);
+    out[c] = 10;
+    c + 1
+}
+
+// The same of an answer, where there is room.
 fn put_line(place: u64, answer: Answer, out: &mut [u8], at: usize) -> usize
     requires { ⌜ at + 44 ≤ length (now out) ⌝ }
     ensures { λ r. ⌜ Puts at (line place (numbered answer)) (now (out .entry)) (now (out .exit)) r ⌝ }
     ensures { λ r. ⌜ r ≤ at + 44 ⌝ }
 {
-    let a = text::put_number(place, out, at);
-    out[a] = 32;
-    out[a + 1] = 48 + answer.code() as u8;
-    out[a + 2] = 32;
-    let b = text::put_number(answer.job().0 as u64, out, a + 3);
-    out[b] = 10;
-    b + 1
+    put_reply(place, answer.code(), answer.job().0, out, at)
 }
 
 // The header, 17 bytes, where there is room.

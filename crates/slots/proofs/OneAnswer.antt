@@ -22,6 +22,12 @@ use Rattle.slots.proofs.Answer.code.Kinds as code-kinds
 use Rattle.slots.proofs.Answer.code.Reads as code-reads
 use Rattle.slots.proofs.Answer.job.Kinds as job-kinds
 use Rattle.slots.proofs.Answer.job.Reads as job-reads
+use Rattle.slots.proofs.slot_for.Kinds as slot-kinds
+use Rattle.slots.proofs.slot_for.Reads as slot-reads
+use Rattle.slots.proofs.cell_in.Kinds as cell-kinds
+use Rattle.slots.proofs.cell_in.Reads as cell-reads
+use Rattle.slots.proofs.job_in.Kinds as job-in-kinds
+use Rattle.slots.proofs.job_in.Reads as job-in-reads
 use Rattle.slots.proofs.step_in_place.Kinds as in-place-kinds
 use Rattle.slots.proofs.step_in_place.Reads as in-place-reads
 use Rattle.slots.proofs.late_in_place.Kinds as late-kinds
@@ -35,13 +41,13 @@ one-part part whole back r s p q = sym (back r) ∙ ap whole (p ∙ sym q) ∙ b
 -- ---- answers
 
 -- the answer of a reply
-answer-of : Reply → Answer
+pub answer-of : Reply → Answer
 answer-of r =
     let n = r .code in
     cond (eqb n 0) (Granted (record { 0 = r .job }))
     (cond (eqb n 1) Malformed (cond (eqb n 2) NoCell (cond (eqb n 3) NotOpen (cond (eqb n 4) HasWritten (cond (eqb n 5) Full (cond (eqb n 6) Spent (cond (eqb n 7) Circle (cond (eqb n 8) NoPort PortFull))))))))
 
-answer-back : (a : Answer) → answer-of (numbered a) ≡ a
+pub answer-back : (a : Answer) → answer-of (numbered a) ≡ a
 unfolding answer-of
 answer-back (Granted j) = refl
 answer-back Malformed = refl
@@ -63,6 +69,17 @@ one-code κs a x y s t p q = p ∙ sym q
 
 pub one-job : One 0 job-kinds.ps job-kinds.r job-reads.Post
 one-job κs a x y s t p q = one-part (λ (r : JobNumber). r .0) (λ n. record { 0 = n }) (λ r. refl) x y p q
+
+-- ---- the fields of a request
+
+pub one-slot-for : One 1 slot-kinds.ps slot-kinds.r slot-reads.Post
+one-slot-for κs a x y s t p q = p ∙ sym q
+
+pub one-cell-in : One 0 cell-kinds.ps cell-kinds.r cell-reads.Post
+one-cell-in κs a x y s t p q = p ∙ sym q
+
+pub one-job-in : One 0 job-in-kinds.ps job-in-kinds.r job-in-reads.Post
+one-job-in κs a x y s t p q = one-part (λ (r : JobNumber). r .0) (λ n. record { 0 = n }) (λ r. refl) x y p q
 
 -- ---- the step in place
 

@@ -105,7 +105,7 @@ fn holding(free: u32, numbers: &[u32; 32], job: JobNumber) -> u32
 }
 
 // The lowest open slot that holds the number, or 32. The lowest slot of all that holds it is nearly always open; only where it is not, every number is looked at.
-fn slot_for(free: u32, numbers: &[u32; 32], job: JobNumber) -> u32
+pub fn slot_for(free: u32, numbers: &[u32; 32], job: JobNumber) -> u32
     ensures { λ r. ⌜ r ≡ trailingZeros 32 (mask-of 32 (holds free (now (numbers .entry)) (job .0))) ⌝ }
 {
     let mut i: u32 = 0;
@@ -332,14 +332,14 @@ fn wide(b: u8) -> u32
     b as u32
 }
 
-// The cell field of a request, and its job.
-fn cell_in(request: [u8; 8]) -> u32
+// The cell field of a request, and its job field. The crate `locking` reads a request by them too.
+pub fn cell_in(request: [u8; 8]) -> u32
     ensures { λ r. ⌜ r ≡ request-of request .cell ⌝ }
 {
     wide(request[2]) + wide(request[3]) * 256
 }
 
-fn job_in(request: [u8; 8]) -> JobNumber
+pub fn job_in(request: [u8; 8]) -> JobNumber
     ensures { λ r. ⌜ r .0 ≡ request-of request .job ⌝ }
 {
     JobNumber(

@@ -1,0 +1,3 @@
+pub mod BarLaws
+pub mod LockRequests
+pub mod OneAnswer

@@ -1,0 +1,2 @@
+mod LockRunLaws
+pub mod OneAnswer

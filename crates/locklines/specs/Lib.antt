@@ -1,0 +1,3 @@
+pub mod LockLines
+pub mod LockWrites
+pub mod LockLineLaws
