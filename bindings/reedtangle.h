@@ -208,6 +208,22 @@ uint64_t reedtangle_late_step(uint64_t *next, uint32_t *free, uint32_t *numbers,
  */
 uint64_t reedtangle_publish(uint64_t *next, uint32_t *free, uint32_t *numbers, uint32_t *leads, uint64_t *sets, uint32_t job, const uint64_t *cells);
 
+/* ---- the coarse mode: one function more, in an archive of its own, target/staticlib/libarchive.a (`rt staticlib archive`)
+ *
+ * Cells 0 to 4,095 in 256 groups: a cell's group is its number divided by 16, rounded down. One request on a state that the host keeps, answered as reedtangle_step answers the same request with the
+ * cell's group for its cell; 2 means a cell of 4,096 or more. From a fresh state through any requests of this mode each answer is that of the whole history by groups, and the log of
+ * what was granted, with its true cells, always has an order that will do. Some steps get 7 that would not by their true cells. The state has the same form and is made by reedtangle_fresh;
+ * it belongs to the mode that it was started in. A log with cells above 255 is none for the checker and the lister. What is said above of all functions holds of it; it takes less than
+ * 6,000 bytes of stack.
+ */
+
+enum {
+    REEDTANGLE_COARSE_CELLS = 4096, /* cells are numbered 0 to 4,095 in this mode */
+    REEDTANGLE_GROUP_CELLS = 16     /* so many of them are of one group */
+};
+
+uint64_t reedtangle_coarse_step(uint64_t *next, uint32_t *free, uint32_t *numbers, uint32_t *leads, uint64_t *sets, uint32_t *ports, const uint8_t *request);
+
 /* ---- ledger blocks: two functions more, in an archive of their own, target/staticlib/libledger.a (`rt staticlib ledger`)
  *
  * A log in blocks of 512 bytes: the block's number from 0 in four bytes, the count of its records in two, two zero bytes, 62 places of eight bytes,

@@ -1,6 +1,6 @@
 #!/bin/sh
-# Builds and runs the C program and the Rust tests over the two archives, and the two examples of README.md.
-# Wants cc and cargo, and `rt staticlib` of arbiter, orders, ledger, batch, importer and exporter before. Last line: `N passed, 0 failed`. Leaves nothing behind.
+# Builds and runs the C program and the Rust tests over the archives, and the two examples of README.md.
+# Wants cc and cargo, and `rt staticlib` of arbiter, orders, archive, ledger, batch, importer and exporter before. Last line: `N passed, 0 failed`. Leaves nothing behind.
 cd "$(dirname "$0")/.." || exit 1
 work=$(mktemp -d) || exit 1
 trap 'rm -rf "$work"' EXIT
@@ -8,6 +8,7 @@ export CARGO_TARGET_DIR="$work/cargo"
 archives="target/staticlib/libarbiter.a target/staticlib/liborders.a"
 ledger=target/staticlib/libledger.a
 batch=target/staticlib/libbatch.a
+coarse=target/staticlib/libarchive.a
 notation="target/staticlib/libimporter.a target/staticlib/libexporter.a"
 strict="-Wall -Wextra -Werror -pedantic"
 passed=0
@@ -45,7 +46,7 @@ example() {
   awk -v open="\`\`\`$1" '$0 == open { on = 1; next } $0 == "```" { on = 0 } on' README.md
 }
 
-for archive in $archives $ledger $batch $notation; do
+for archive in $archives $ledger $batch $coarse $notation; do
   try "$archive is there (rt staticlib writes it)" test -f "$archive"
 done
 if [ "$failed" != 0 ]; then
@@ -72,6 +73,7 @@ fi
 for_c night $archives
 for_c ledger $ledger
 for_c batch $batch $archives
+for_c archive $coarse $archives
 for_c desk $archives
 for_c notation $notation
 for_c small $archives -pthread

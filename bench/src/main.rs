@@ -1,5 +1,6 @@
 //! The second witness and the figures, outside the gate. README names the commands.
 mod bounded;
+mod coarse;
 mod differ;
 mod figures;
 mod flat;
@@ -28,6 +29,9 @@ bench locks [SEED [WINDOWS [PROGRAM]]]    the run by locks, the step and the pro
 bench locks-text FILE                     what the program locked prints for a file of requests
 bench desk FILE                           what the text of the program desk expects, and its output
 bench desk-make SEED WINDOWS ASKS         the streams in that text
+bench coarse [SEED [REQUESTS]]            the coarse mode's arbiter against two others
+bench shelves FILE                        what the text of the program shelves expects, and its output
+bench shelves-make SEED WINDOWS ASKS      the streams in that text
 bench programs [FOLDER [SEED [LOGS]]]     the built programs on made files
 bench figures FOLDER                      tables of times, the stack, a picture
 bench flat [RUNS [STRETCHES]]             cost early and late in one history
@@ -57,6 +61,9 @@ fn main() {
         Some("locks-text") => locks::text(words.get(1).expect("a file of requests")),
         Some("desk") => late_text::run(words.get(1).expect("the file of histories")),
         Some("desk-make") => late_text::make(number(1, 1), number(2, 3), number(3, 160)),
+        Some("coarse") => coarse::run(number(1, 1), number(2, 4_000_000)),
+        Some("shelves") => coarse::text(words.get(1).expect("the text of shelves")),
+        Some("shelves-make") => coarse::make(number(1, 1), number(2, 1), number(3, 160)),
         Some("programs") => programs::run(
             words.get(1).map_or("../target/bin", |w| w),
             number(2, 1),

@@ -1,8 +1,10 @@
 //! The proved arbiter, checker and lister, by the bindings for Rust, with each answer as document 01's numbers.
+use crate::bounded::Bounded;
+use crate::differ::same_state;
 use crate::judge::Verdict;
 use crate::late::Ask;
 use crate::requests::Request;
-use reedtangle::{Arbiter, CellSet, LateArbiter, State};
+use reedtangle::{Arbiter, CellSet, CoarseArbiter, LateArbiter, State};
 
 #[derive(Clone)]
 pub struct Ours(Arbiter);
@@ -61,6 +63,26 @@ impl OursLate {
             Ask::Request(r) => self.0.answer(r),
             Ask::Publish(job, cells) => self.0.publish_answer(job, CellSet(cells)),
         }
+    }
+}
+
+/// The proved arbiter of the coarse mode.
+pub struct OursCoarse(CoarseArbiter);
+
+impl OursCoarse {
+    pub fn new(first: u32) -> OursCoarse {
+        let mut o = OursCoarse(CoarseArbiter::from_state(Ours::new(9).state().clone()));
+        o.0.restart(first);
+        o
+    }
+
+    pub fn ask(&mut self, r: Request) -> (u32, u32) {
+        self.0.answer(r)
+    }
+
+    /// Is its state that of the bounded arbiter?
+    pub fn is(&self, b: &Bounded) -> bool {
+        same_state(&Ours::of(self.0.state().clone()), b)
     }
 }
 

@@ -3,7 +3,7 @@ fn main() {
     let here = std::env::var("CARGO_MANIFEST_DIR").unwrap();
     let top = std::path::Path::new(&here).join("../../target/staticlib");
     println!("cargo:rustc-link-search=native={}", top.display());
-    for name in ["arbiter", "orders"] {
+    for name in ["arbiter", "orders", "archive"] {
         let archive = top.join(format!("lib{name}.a"));
         println!("cargo:rerun-if-changed={}", archive.display());
         if !archive.exists() {

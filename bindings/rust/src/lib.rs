@@ -1,6 +1,6 @@
 //! Reedtangle for Rust: an arbiter for overlapping jobs over 256 shared cells, a checker of orders and a lister of orders.
 //!
-//! The work is done by the proved functions of two archives, which `rt staticlib arbiter` and `rt staticlib orders` write at the top of
+//! The work is done by the proved functions of three archives, which `rt staticlib` of `arbiter`, `orders` and `archive` writes at the top of
 //! the repository; this crate lends them memory and takes their answers apart. It is plain Rust and not proved; `tests/night.rs` tries it.
 //! It has no dependencies, allocates nothing and keeps no globals.
 //!
@@ -66,6 +66,15 @@ extern "C" {
         written: *mut u64,
     ) -> u32;
     fn reedtangle_late_step(
+        next: *mut u64,
+        free: *mut u32,
+        numbers: *mut [u32; 32],
+        leads: *mut [u32; 32],
+        sets: *mut [u64; 512],
+        ports: *mut [u32; 3],
+        request: *const [u8; 8],
+    ) -> u64;
+    fn reedtangle_coarse_step(
         next: *mut u64,
         free: *mut u32,
         numbers: *mut [u32; 32],
@@ -547,6 +556,117 @@ impl LateArbiter {
     /// Asks to read a cell.
     pub fn read(&mut self, job: Job, cell: u8) -> Result<Job, Refusal> {
         self.ask(request::read(job, cell))
+    }
+
+    /// Asks to abandon a job.
+    pub fn abandon(&mut self, job: Job) -> Result<Job, Refusal> {
+        self.ask(request::abandon(job))
+    }
+}
+
+// ---- the coarse mode
+
+/// A coarse arbiter: 4,096 cells in 256 groups of sixteen, a cell's group being its number divided by 16, rounded down.
+///
+/// It answers as an [`Arbiter`] does that is asked with each cell's group for the cell, so that two steps stand against each other by groups and some are refused
+/// that the exact mode would grant. What it grants has an order by its true cells. Its state holds groups: it is made as that of an [`Arbiter`] and goes on in
+/// this mode alone. The log of what it grants has cells above 255, which the checker and the lister do not take.
+///
+/// ```
+/// use reedtangle::{CoarseArbiter, Refusal};
+///
+/// let mut archive = CoarseArbiter::new(1);
+/// let (a, b) = (archive.open(0).unwrap(), archive.open(0).unwrap());
+/// archive.read(a, 4080).unwrap();
+/// archive.write(b, 4095).unwrap();
+/// // a comes before b by the group of 4,080 to 4,095
+/// assert_eq!(archive.read(a, 4090), Err(Refusal::Circle));
+/// assert_eq!(archive.read(a, 4079), Ok(a));
+/// assert_eq!(archive.read(a, 4096), Err(Refusal::NoCell));
+/// ```
+#[derive(Clone, PartialEq, Eq, Hash, Debug)]
+pub struct CoarseArbiter {
+    state: State,
+}
+
+impl CoarseArbiter {
+    /// No job open. The first job gets the number `first`, which may be any.
+    pub fn new(first: u32) -> CoarseArbiter {
+        CoarseArbiter {
+            state: Arbiter::new(first).state,
+        }
+    }
+
+    /// Starts again, in the same memory: what [`CoarseArbiter::new`] makes, whatever was held before.
+    pub fn restart(&mut self, first: u32) {
+        fresh(first, &mut self.state);
+    }
+
+    /// Goes on from a state that was kept. Any content is safe and gets an answer; that the answers are those of a history holds for
+    /// states that [`CoarseArbiter::state`] gave.
+    pub const fn from_state(state: State) -> CoarseArbiter {
+        CoarseArbiter { state }
+    }
+
+    /// What the arbiter holds.
+    pub const fn state(&self) -> &State {
+        &self.state
+    }
+
+    /// One request, any eight bytes, as with [`Arbiter::ask`]; [`Refusal::NoCell`] is for a cell above 4,095.
+    #[inline]
+    pub fn ask(&mut self, request: [u8; 8]) -> Result<Job, Refusal> {
+        granted(self.answer(request))
+    }
+
+    /// One request as with [`CoarseArbiter::ask`], the answer in document 01's numbers: the code, 0 for a grant, and the job, 0 for a refusal.
+    #[inline]
+    pub fn answer(&mut self, request: [u8; 8]) -> (u32, u32) {
+        let s = &mut self.state;
+        // Six fields of one value and a request apart from it: they do not overlap, and each is as large as its type says.
+        apart(unsafe {
+            reedtangle_coarse_step(
+                &mut s.next,
+                &mut s.free,
+                &mut s.numbers,
+                &mut s.leads,
+                &mut s.sets,
+                &mut s.ports,
+                &request,
+            )
+        })
+    }
+
+    /// Asks to open a job of a port, 0 to 2.
+    ///
+    /// The refusals in their sequence: [`Refusal::Spent`], [`Refusal::NoPort`], [`Refusal::Full`], [`Refusal::PortFull`].
+    pub fn open(&mut self, port: u32) -> Result<Job, Refusal> {
+        self.ask(request::open(port))
+    }
+
+    /// Asks to read a cell.
+    pub fn read(&mut self, job: Job, cell: u16) -> Result<Job, Refusal> {
+        self.ask(request::of(2, cell, job.0))
+    }
+
+    /// Asks to write a cell.
+    pub fn write(&mut self, job: Job, cell: u16) -> Result<Job, Refusal> {
+        self.ask(request::of(3, cell, job.0))
+    }
+
+    /// Asks to add to a cell.
+    pub fn add(&mut self, job: Job, cell: u16) -> Result<Job, Refusal> {
+        self.ask(request::of(7, cell, job.0))
+    }
+
+    /// Asks to write a cell and end the job, in one request.
+    pub fn publish(&mut self, job: Job, cell: u16) -> Result<Job, Refusal> {
+        self.ask(request::of(6, cell, job.0))
+    }
+
+    /// Asks to end a job.
+    pub fn end(&mut self, job: Job) -> Result<Job, Refusal> {
+        self.ask(request::end(job))
     }
 
     /// Asks to abandon a job.

@@ -1,0 +1,2 @@
+pub mod ArchiveLaws
+pub mod OneAnswer
