@@ -1,7 +1,7 @@
 /*
- * Reedtangle for C and C++: an arbiter for overlapping jobs over 256 shared cells, a checker of orders and a lister of orders.
+ * Reedtangle for C and C++: an arbiter for overlapping jobs over 256 shared cells, a checker of orders, a lister of orders and one of the morning sheet.
  *
- * The six functions are in two archives, made by `rt staticlib arbiter` and `rt staticlib orders` (x86-64 Linux):
+ * The seven functions are in two archives, made by `rt staticlib arbiter` and `rt staticlib orders` (x86-64 Linux):
  *
  *     cc -std=c11 -I bindings host.c target/staticlib/libarbiter.a target/staticlib/liborders.a -o host
  *
@@ -10,7 +10,7 @@
  * before all that were opened after its end. So the words are used below; there may be an order with the same reads and cells in the end that
  * turns such a pair round, and it is not looked for.
  *
- * What holds for all six:
+ * What holds for all seven:
  *
  * - They are total. Whatever the lent memory holds, the call comes to its end, with exactly one answer. They never stop the program.
  * - They keep nothing between calls: no globals, no allocation, no files. All that lasts is in memory that the caller lends.
@@ -22,12 +22,12 @@
  * - No pointer is NULL, not even with a length of 0. Each is aligned for its type, and all the memory that its length says is there to use.
  * - What is lent to one call does not overlap. Only memory that is read alone (const) may overlap other such memory.
  * - Nobody else writes lent memory during the call. Two threads may each use a state of their own, or take turns at one.
- * - Room on the stack: reedtangle_list_order takes about 95,000 bytes of it, reedtangle_check_order 28,000, reedtangle_replay_by_value 14,000, the others less than
+ * - Room on the stack: reedtangle_list_sheet takes about 110,000 bytes of it, reedtangle_list_order 108,000, reedtangle_check_order 28,000, reedtangle_replay_by_value 14,000, the others less than
  *   6,000.
  *
  * Not promised: that a job gets through. One that is refused may be refused for ever.
  *
- * The six functions are proved (docs/PROMISES.md says what and where). The wrappers further down are plain C and are not; bindings/c/night.c
+ * The seven functions are proved (docs/PROMISES.md says what and where). The wrappers further down are plain C and are not; bindings/c/night.c
  * tries them.
  */
 #ifndef REEDTANGLE_H
@@ -118,7 +118,7 @@ enum {
 
     /* lister */
     REEDTANGLE_NO_ORDER = 17,       /* place 0: no order would do */
-    REEDTANGLE_SHORT = 18,          /* place: the count of kept jobs, more than the list has entries */
+    REEDTANGLE_SHORT = 18,          /* place: the count of kept jobs (of a sheet, of the jobs at rest), more than the list has entries */
 
     /* reedtangle_replay */
     REEDTANGLE_NO_ROOM = 24         /* the answers do not fit */
@@ -179,6 +179,16 @@ uint64_t reedtangle_check_order(const uint8_t *log, size_t length, const uint32_
  * what a fresh state granted, within the sizes above, is never at fault and never gets 17.
  */
 uint64_t reedtangle_list_order(const uint8_t *log, size_t length, uint32_t *out, size_t room);
+
+/*
+ * The morning sheet of the log: the part of an order that will not move. A job is at rest when it has ended and no open job leads to it: precedes it, or
+ * precedes a job that leads to it. In and back as of reedtangle_list_order, but the list is of the jobs at rest, in the lister's order, and 18
+ * asks for room for them alone: the place of 0 and of 18 is their count.
+ *
+ * With room, a sheet comes exactly when the whole log has an order, and 17 exactly when it has none. Of the log of what a fresh state granted, and of
+ * whatever it grants after that within the sizes above, the longer log has an order that starts with exactly this sheet.
+ */
+uint64_t reedtangle_list_sheet(const uint8_t *log, size_t length, uint32_t *out, size_t room);
 
 /* ---- the second profile: two functions more, in libarbiter.a
  *
@@ -366,6 +376,16 @@ static inline reedtangle_verdict reedtangle_check(const uint8_t *log, size_t len
 static inline reedtangle_verdict reedtangle_list(const uint8_t *log, size_t length, uint32_t *out, size_t room)
 {
     uint64_t both = reedtangle_list_order(log, length, out, room);
+    reedtangle_verdict verdict;
+    verdict.code = (uint32_t)(both >> 32);
+    verdict.place = (uint32_t)both;
+    return verdict;
+}
+
+/* reedtangle_list_sheet, its answer taken apart. */
+static inline reedtangle_verdict reedtangle_sheet(const uint8_t *log, size_t length, uint32_t *out, size_t room)
+{
+    uint64_t both = reedtangle_list_sheet(log, length, out, room);
     reedtangle_verdict verdict;
     verdict.code = (uint32_t)(both >> 32);
     verdict.place = (uint32_t)both;

@@ -15,6 +15,7 @@ mod ours;
 mod programs;
 mod recounted;
 mod requests;
+mod sheets;
 mod speed;
 mod tried;
 mod verdicts;
@@ -22,6 +23,7 @@ mod whole;
 
 const USE: &str = "bench differ [SEED [REQUESTS]]            the arbiter against two others
 bench verdicts [SEED [LOGS]]              the checker and the lister against two others
+bench sheets [SEED [LOGS]]                the morning sheet against one by search, and what it promises of longer logs
 bench tried FILE                          what the tried histories expect
 bench recount FILE                        what the program recount is to write, of the same text
 bench late [SEED [ASKS]]                  the second profile's arbiter against two others
@@ -50,6 +52,7 @@ fn main() {
     let failed = match words.first().map(String::as_str) {
         Some("differ") => differ::run(number(1, 1), number(2, 10_000_000)),
         Some("verdicts") => verdicts::run(number(1, 1), number(2, 1_000_000)),
+        Some("sheets") => sheets::run(number(1, 1), number(2, 50_000)),
         Some("tried") => tried::run(words.get(1).expect("the file of tried histories")),
         Some("recount") => recounted::run(words.get(1).expect("the file of tried histories")),
         Some("late") => late::run(number(1, 1), number(2, 4_000_000)),

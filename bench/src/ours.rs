@@ -127,3 +127,15 @@ pub fn list(log: &[u8], out: &mut [u32]) -> Verdict {
         },
     }
 }
+
+/// Code and place; the morning sheet in `out`.
+#[inline]
+pub fn sheet(log: &[u8], out: &mut [u32]) -> Verdict {
+    match reedtangle::list_sheet(log, out) {
+        Ok(place) => Verdict { code: 0, place },
+        Err(e) => Verdict {
+            code: e.code(),
+            place: e.place(),
+        },
+    }
+}

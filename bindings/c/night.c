@@ -173,6 +173,31 @@ static void orders_by_hand(void)
     tell(verdict_is(reedtangle_check(log, 0, listed, 0), REEDTANGLE_GRANTED, 0), "the empty list is the order of the empty log");
 }
 
+/* Sheets of the first night, and of a log of three records. */
+static void sheets_by_hand(void)
+{
+    static const uint32_t whole[3] = {2, 1, 3};
+    uint32_t list[4] = {90, 91, 92, 93};
+    uint8_t log[24];
+    int good;
+
+    good = verdict_is(reedtangle_sheet(log_one.bytes, log_one.length, list, 4), REEDTANGLE_GRANTED, 3);
+    tell(good && memcmp(list, whole, sizeof whole) == 0 && list[3] == 93, "with no job open the sheet is the whole order, 2, 1, 3");
+
+    /* before its last record job 2 is open: it read cell 5 before job 1 wrote it, and job 1 had ended when job 3 was opened */
+    good = verdict_is(reedtangle_sheet(log_one.bytes, 64, list, 0), REEDTANGLE_GRANTED, 0);
+    tell(good && memcmp(list, whole, sizeof whole) == 0, "with job 2 open nothing is at rest");
+
+    reedtangle_put_request(log, REEDTANGLE_OPEN, 0, 1);
+    reedtangle_put_request(log + 8, REEDTANGLE_OPEN, 0, 2);
+    reedtangle_put_request(log + 16, REEDTANGLE_END, 0, 2);
+    tell(verdict_is(reedtangle_sheet(log, 24, list, 0), REEDTANGLE_SHORT, 1), "no room for a job at rest gets 18, 1");
+    list[0] = 90;
+    good = verdict_is(reedtangle_sheet(log, 24, list, 1), REEDTANGLE_GRANTED, 1);
+    tell(good && list[0] == 2 && list[1] == 1, "job 2 is at rest, with job 1 open");
+    tell(verdict_is(reedtangle_sheet(log, 23, list, 1), REEDTANGLE_LENGTH, 0), "23 bytes get 11");
+}
+
 /* Logs and lists that are refused, each code, and the lent list as it was. */
 static void logs_by_hand(void)
 {
@@ -677,6 +702,7 @@ int main(void)
     printf("a state is %zu bytes\n", sizeof(reedtangle_state));
     two_nights();
     orders_by_hand();
+    sheets_by_hand();
     logs_by_hand();
     ends_of_ranges();
     ports();

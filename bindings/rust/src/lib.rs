@@ -1,4 +1,5 @@
-//! Reedtangle for Rust: an arbiter for overlapping jobs over 256 shared cells, a checker of orders and a lister of orders.
+//! Reedtangle for Rust: an arbiter for overlapping jobs over 256 shared cells, a checker of orders, a lister of orders and one of the
+//! morning sheet.
 //!
 //! The work is done by the proved functions of three archives, which `rt staticlib` of `arbiter`, `orders` and `archive` writes at the top of
 //! the repository; this crate lends them memory and takes their answers apart. It is plain Rust and not proved; `tests/night.rs` tries it.
@@ -99,6 +100,7 @@ extern "C" {
         entries: usize,
     ) -> u64;
     fn reedtangle_list_order(log: *const u8, length: usize, out: *mut u32, room: usize) -> u64;
+    fn reedtangle_list_sheet(log: *const u8, length: usize, out: *mut u32, room: usize) -> u64;
 }
 
 /// At most so many jobs are open at once.
@@ -845,7 +847,7 @@ pub enum NoList {
     Log(Fault),
     /// 17: no order would do.
     NoOrder,
-    /// 18: the list has fewer entries than there are kept jobs, so many.
+    /// 18: the list has fewer entries than there are kept jobs, or of a sheet jobs at rest, so many.
     Short(usize),
 }
 
@@ -864,7 +866,7 @@ impl NoList {
         match self {
             NoList::Log(fault) => fault.place(),
             NoList::NoOrder => 0,
-            NoList::Short(kept) => kept,
+            NoList::Short(jobs) => jobs,
         }
     }
 }
@@ -874,8 +876,11 @@ impl fmt::Display for NoList {
         match self {
             NoList::Log(fault) => fault.fmt(f),
             NoList::NoOrder => f.write_str("no order of the jobs would do"),
-            NoList::Short(kept) => {
-                write!(f, "the log has {kept} jobs, more than the list has entries")
+            NoList::Short(jobs) => {
+                write!(
+                    f,
+                    "{jobs} jobs are to be listed, more than the list has entries"
+                )
             }
         }
     }
@@ -910,12 +915,33 @@ pub fn check_order(log: &[u8], order: &[u32]) -> Result<usize, BadOrder> {
 /// stay. On a refusal all of `out` stays.
 ///
 /// With room, an order comes exactly when there is one. The log of what a fresh arbiter granted, within the sizes of a log, always has one.
-/// Takes about 95,000 bytes of stack.
+/// Takes about 108,000 bytes of stack.
 #[inline]
 pub fn list_order(log: &[u8], out: &mut [u32]) -> Result<usize, NoList> {
     // Two slices, apart since one is lent to be written.
     let both =
         unsafe { reedtangle_list_order(log.as_ptr(), log.len(), out.as_mut_ptr(), out.len()) };
+    listed(both)
+}
+
+/// The morning sheet of the log, the part of an order that will not move: the count of the jobs at rest, whose numbers are then at the start
+/// of `out`, in the lister's order. Entries past them stay. On a refusal all of `out` stays.
+///
+/// A job is at rest when it has ended and no open job leads to it: precedes it, or precedes a job that leads to it. `NoList::Short` asks for
+/// room for the jobs at rest alone; with room, `NoList::NoOrder` comes exactly when the whole log has no order. Of the log of what a fresh
+/// arbiter granted, and of whatever it grants after that within the sizes of a log, the longer log has an order that starts with exactly this
+/// sheet. Takes about 110,000 bytes of stack.
+#[inline]
+pub fn list_sheet(log: &[u8], out: &mut [u32]) -> Result<usize, NoList> {
+    // As above.
+    let both =
+        unsafe { reedtangle_list_sheet(log.as_ptr(), log.len(), out.as_mut_ptr(), out.len()) };
+    listed(both)
+}
+
+// A code and a place, as the count of what was listed or why nothing was.
+#[inline]
+fn listed(both: u64) -> Result<usize, NoList> {
     let (code, place) = (apart(both).0, apart(both).1 as usize);
     match code {
         0 => Ok(place),

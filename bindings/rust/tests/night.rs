@@ -134,6 +134,39 @@ fn orders_by_hand() {
 }
 
 #[test]
+fn sheets_by_hand() {
+    let (log, _) = two_nights();
+    let mut list = [90, 91, 92, 93];
+    assert_eq!(list_sheet(&log, &mut list), Ok(3));
+    assert_eq!(list, [2, 1, 3, 93]);
+    assert_eq!(list_sheet(&log, &mut list[..2]), Err(NoList::Short(3)));
+    // before its last record job 2 is open: it read cell 5 before job 1 wrote it, and job 1 had ended when job 3 was opened
+    let mut list = [90, 91, 92];
+    assert_eq!(list_sheet(&log[..64], &mut list), Ok(0));
+    assert_eq!(list_sheet(&log[..64], &mut []), Ok(0));
+    // job 2 ends, and job 1 is open and has done nothing
+    let short: Vec<u8> = [
+        request::of(1, 0, 1),
+        request::of(1, 0, 2),
+        request::end(Job(2)),
+    ]
+    .concat();
+    assert_eq!(list_sheet(&short, &mut []), Err(NoList::Short(1)));
+    assert_eq!(list, [90, 91, 92]);
+    assert_eq!(list_sheet(&short, &mut list[..1]), Ok(1));
+    assert_eq!(list, [2, 91, 92]);
+    // the write that the arbiter refused makes a circle: 17 with room for the jobs at rest, of which there is none
+    let mut bad = log[..64].to_vec();
+    bad.extend(request::write(Job(2), 5));
+    assert_eq!(list_sheet(&bad, &mut []), Err(NoList::NoOrder));
+    assert_eq!(
+        list_sheet(&log[..71], &mut list),
+        Err(NoList::Log(Fault::Length))
+    );
+    assert_eq!(list, [2, 91, 92]);
+}
+
+#[test]
 fn logs_by_hand() {
     let (log, _) = two_nights();
     let both = |log: &[u8], fault: Fault| {

@@ -104,7 +104,7 @@ fn usage() {
     files::show(
         b"usage: checker LOG ORDER\n\
         Judges an order of the jobs of a log.\n\
-        LOG: records of 8 bytes, at most 4096, and at most 512 opens. A record is the kind (1 open, 2 read, 3 write, 4 end, 5 abandon),\n\
+        LOG: records of 8 bytes, at most 4096, and at most 512 opens. A record is the kind (1 open, 2 read, 3 write, 4 end, 5 abandon, 7 add),\n\
         a byte 0, the cell (2 bytes, 0 to 255, and 0 where no cell is meant) and the job (4 bytes; of an open, the number issued).\n\
         ORDER: 32-bit job numbers. It must name each kept job once; a job is kept unless the log abandons it.\n\
         It must keep every conflicting pair of records as the log has it, and put each job before the jobs opened after its end.\n\

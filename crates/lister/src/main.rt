@@ -1,31 +1,7 @@
 // The lister: the lowest-first order of the jobs of a log in a file.
 ghost use Prim.Native.Nat.{_≤_};
 ghost use lib.ListN.{length};
-ghost use Rattle.plain.specs.Stays.{Stays};
 use files::Loaded;
-
-// A number on a line of its own.
-fn put_line(n: u32, out: &mut [u8], at: usize) -> usize
-    ensures { λ r. ⌜ Stays at (now (out .entry)) (now (out .exit)) r ⌝ }
-{
-    plain::put_counted(b"", n as u64, b"\n", out, at)
-}
-
-// The first numbers of the order, so many, a line for each.
-fn put_order(order: &[u32], count: usize, out: &mut [u8], at: usize) -> usize
-    ensures { λ r. ⌜ Stays at (now (out .entry)) (now (out .exit)) r ⌝ }
-{
-    let mut to = at;
-    let mut i: usize = 0;
-    while i < count {
-        if order.len() <= i {
-            return to;
-        }
-        to = put_line(order[i], out, to);
-        i += 1;
-    }
-    to
-}
 
 // The answer in words.
 fn put_answer(code: u32, place: usize, order: &[u32], out: &mut [u8]) -> usize
@@ -33,7 +9,7 @@ fn put_answer(code: u32, place: usize, order: &[u32], out: &mut [u8]) -> usize
 {
     if code == 0 {
         let at = plain::put_accepted(place as u64, out, 0);
-        return put_order(order, place, out, at);
+        return plain::put_numbers(order, place, out, at);
     }
     let at = plain::put_refused(code, place as u64, out, 0);
     match code {
@@ -68,7 +44,7 @@ fn usage() {
         b"usage: lister LOG\n\
         Lists the kept jobs of a log in an order that keeps every conflicting pair and puts each job before those opened after its end,\n\
         the lowest number first where there is a choice.\n\
-        LOG: records of 8 bytes, at most 4096, and at most 512 opens. A record is the kind (1 open, 2 read, 3 write, 4 end, 5 abandon),\n\
+        LOG: records of 8 bytes, at most 4096, and at most 512 opens. A record is the kind (1 open, 2 read, 3 write, 4 end, 5 abandon, 7 add),\n\
         a byte 0, the cell (2 bytes, 0 to 255, and 0 where no cell is meant) and the job (4 bytes; of an open, the number issued).\n\
         Numbers stand low byte first. A job is kept unless the log abandons it.\n\
         The answer is 'accepted N' and N job numbers, one a line, or 'refused CODE PLACE' and a line that says what is wrong.\n\

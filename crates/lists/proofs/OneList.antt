@@ -23,6 +23,8 @@ use Rattle.lists.proofs.Listed.place.Kinds as place-kinds
 use Rattle.lists.proofs.Listed.place.Reads as place-reads
 use Rattle.lists.proofs.list_order.Kinds as list-kinds
 use Rattle.lists.proofs.list_order.Reads as list-reads
+use Rattle.lists.proofs.list_sheet.Kinds as sheet-kinds
+use Rattle.lists.proofs.list_sheet.Reads as sheet-reads
 
 -- the result of an answer
 list-of : Listed → Answer
@@ -60,3 +62,9 @@ pub one-list-order : (κs : Lfts 2) (a : Dens κs list-kinds.ps) (x y : resT lis
     → list-reads.Post κs a y t
     → (x ≡ y) × (now (s .1 .0) ≡ now (t .1 .0))
 one-list-order κs a x y s t p q = one-listing x y (now (s .1 .0)) (now (t .1 .0)) p q
+
+pub one-list-sheet : (κs : Lfts 2) (a : Dens κs sheet-kinds.ps) (x y : resT sheet-kinds.r κs .Denot) (s t : AtExit (endedOf 2 sheet-kinds.ps sheet-kinds.r) κs)
+    → sheet-reads.Post κs a x s
+    → sheet-reads.Post κs a y t
+    → (x ≡ y) × (now (s .1 .0) ≡ now (t .1 .0))
+one-list-sheet κs a x y s t p q = one-listing x y (now (s .1 .0)) (now (t .1 .0)) p q

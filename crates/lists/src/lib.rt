@@ -1,15 +1,20 @@
-// The lister of an order.
+// The lister of an order, and of the morning sheet.
 ghost use mathlib.Core.Path.{_≡_};
-ghost use mathlib.Core.Bool.{true};
+ghost use mathlib.Core.Bool.{Bool, true, false, not, _&&_};
 ghost use mathlib.Core.List.{List, [], _++_};
 ghost use Prim.Native.Nat.{ℕ, _+_, _*_, _≤_, _<_};
+ghost use lib.Dec.{ltb, eqb};
 ghost use lib.ListN.{length, getD, set, take, drop};
-ghost use Rattle.history.specs.Events.{History, kept};
+ghost use Rattle.graph.specs.Lists.{only};
+ghost use Rattle.history.specs.Events.{History, opened, kept};
 ghost use Rattle.verdicts.specs.Verdicts.{list-order};
-ghost use Rattle.tallies.specs.Jobs.{Jobs, Blank, Taken};
+ghost use Rattle.sheet.specs.Sheet.{at-rest, resting, list-sheet};
+ghost use Rattle.tallies.specs.Jobs.{Jobs, Blank, Taken, Rises};
 ghost use Rattle.tallies.specs.Places.{Lists};
 ghost use Rattle.tallies.specs.Marks.{mark, Put, Struck, Common, Preceded, KeptMarks, Settled, Only, In-word, Sorted};
+ghost use Rattle.tallies.specs.MarkLaws.{Marking};
 ghost use Rattle.lists.specs.Answers.{answered};
+ghost use Rattle.lists.specs.Sheets.{LedOn, Leading, Grown, Outside, Numbered, Picked, Whole};
 use checks::Kept;
 use logs::Read;
 
@@ -303,6 +308,213 @@ pub fn list_order(log: &[u8], out: &mut [u32]) -> Listed
             }
             copy_out(&order, kept, out);
             Listed::Done(kept)
+        }
+    }
+}
+
+// ---- the morning sheet
+
+// Is the mark put?
+fn has_mark(words: &[u64; 8], at: usize) -> bool
+    requires { ⌜ at < 512 ⌝ }
+    ensures { λ r. ⌜ r ≡ mark (now (words .entry)) at ⌝ }
+{
+    let all = &words[..];
+    all[at / 64] & (1u64 << (at % 64)) != 0
+}
+
+// The marks of the open jobs.
+fn mark_open(states: &[u8; 512], count: usize, moving: &mut [u64; 8])
+    requires { ⌜ count ≤ 512 ⌝ }
+    ensures { λ _. ⌜ (Blank (now (moving .entry)) → Marking (λ i. ltb (getD (now (states .entry)) i 0) 3) count (now (moving .exit))) ⌝ }
+{
+    let stand = &states[..];
+    let mut i: usize = 0;
+    while i < count {
+        if stand[i] < 3 {
+            put_mark(moving, i);
+        }
+        i += 1;
+    }
+}
+
+// A job that is not in the set, and that a job of the set precedes, is put into it. Was it?
+fn lead_on(preds: &[u64; 4096], moving: &mut [u64; 8], job: usize) -> bool
+    requires { ⌜ job < 512 ⌝ }
+    ensures { λ r. ⌜ LedOn (now (preds .entry)) job (now (moving .entry)) (now (moving .exit)) r ⌝ }
+{
+    if has_mark(moving, job) {
+        return false;
+    }
+    if common_mark(preds, job, moving) == 512 {
+        return false;
+    }
+    put_mark(moving, job);
+    true
+}
+
+// The same of each job, one after the other. Was one of them?
+fn lead_all(preds: &[u64; 4096], count: usize, moving: &mut [u64; 8]) -> bool
+    requires { ⌜ count ≤ 512 ⌝ }
+    ensures { λ r. ⌜ Leading (now (preds .entry)) count count (now (moving .entry)) (now (moving .exit)) r × Grown (now (moving .entry)) (now (moving .exit)) r ⌝ }
+{
+    let mut grown = false;
+    let mut i: usize = 0;
+    while i < count {
+        if lead_on(preds, moving, i) {
+            grown = true;
+        }
+        i += 1;
+    }
+    grown
+}
+
+// The same until no job is left that would be put into the set.
+fn close(preds: &[u64; 4096], count: usize, moving: &mut [u64; 8])
+    requires { ⌜ count ≤ 512 ⌝ }
+    ensures { λ _. ⌜ Leading (now (preds .entry)) count count (now (moving .entry)) (now (moving .exit)) false ⌝ }
+{
+    let mut more = true;
+    while more {
+        more = lead_all(preds, count, moving);
+    }
+}
+
+// Is the job kept, and not in the set?
+fn outside(states: &[u8; 512], moving: &[u64; 8], job: usize) -> bool
+    requires { ⌜ job < 512 ⌝ }
+    ensures { λ r. ⌜ r ≡ (not (eqb (getD (now (states .entry)) job 0) 4) && not (mark (now (moving .entry)) job)) ⌝ }
+{
+    let stand = &states[..];
+    if stand[job] == 4 {
+        return false;
+    }
+    !has_mark(moving, job)
+}
+
+// How many jobs are.
+fn count_outside(states: &[u8; 512], count: usize, moving: &[u64; 8]) -> usize
+    requires { ⌜ count ≤ 512 ⌝ }
+    ensures { λ r. ⌜ (r ≤ 512) × ((p : ℕ → Bool) (l : List ℕ) → length l ≡ count → Outside p l count (now (states .entry)) (now (moving .entry)) → r ≡ length (only p l)) ⌝ }
+{
+    let mut others: usize = 0;
+    let mut i: usize = 0;
+    while i < count {
+        if outside(states, moving, i) {
+            others += 1;
+        }
+        i += 1;
+    }
+    others
+}
+
+// The jobs that are open or that an open one leads to, and how many of the others are kept: those at rest.
+fn find_moving(
+    preds: &[u64; 4096],
+    states: &[u8; 512],
+    count: usize,
+    moving: &mut [u64; 8],
+) -> usize
+    requires { ⌜ count ≤ 512 ⌝ }
+    ensures { λ r. ⌜ (r ≤ 512) × ((h : History) (numbers : List ℕ) → Jobs h numbers (now (states .entry)) count → Preceded h count (now (preds .entry)) → Blank (now (moving .entry))
+        → (r ≡ length (resting h)) × Outside (at-rest h) (opened h) count (now (states .entry)) (now (moving .exit))) ⌝ }
+{
+    mark_open(states, count, moving);
+    close(preds, count, moving);
+    count_outside(states, count, moving)
+}
+
+// Is the job of this number not in the set?
+fn rests(numbers: &[u32; 512], count: usize, moving: &[u64; 8], job: u32) -> bool
+    requires { ⌜ count ≤ 512 ⌝ }
+    ensures { λ r. ⌜ (Rises count (now (numbers .entry)) → Numbered (now (numbers .entry)) count job
+        → (i : ℕ) × (i < count) × (getD (now (numbers .entry)) i 0 ≡ job) × (r ≡ not (mark (now (moving .entry)) i))) ⌝ }
+{
+    let i = logs::find_job(numbers, count, job);
+    if i < count {
+        return !has_mark(moving, i);
+    }
+    false
+}
+
+// The entries of the order, of so many, whose jobs are not in the set.
+fn pick(
+    order: &[u32; 512],
+    kept: usize,
+    numbers: &[u32; 512],
+    count: usize,
+    moving: &[u64; 8],
+    sheet: &mut [u32; 512],
+)
+    requires { ⌜ (kept ≤ 512) × (count ≤ 512) ⌝ }
+    ensures { λ _. ⌜ ((p : ℕ → Bool) → Rises count (now (numbers .entry)) → ((k : ℕ) → k < kept → Numbered (now (numbers .entry)) count (getD (now (order .entry)) k 0))
+        → ((k i : ℕ) → k < kept → i < count → getD (now (numbers .entry)) i 0 ≡ getD (now (order .entry)) k 0 → p (getD (now (order .entry)) k 0) ≡ not (mark (now (moving .entry)) i))
+        → Picked p (now (order .entry)) kept (now (sheet .exit))) ⌝ }
+{
+    let all = &order[..];
+    let picked = &mut sheet[..];
+    let mut n: usize = 0;
+    let mut i: usize = 0;
+    while i < kept {
+        let job = all[i];
+        if rests(numbers, count, moving, job) {
+            picked[n] = job;
+            n += 1;
+        }
+        i += 1;
+    }
+}
+
+// The whole order, where there is one, and how many jobs it has.
+fn list_all(
+    preds: &[u64; 4096],
+    numbers: &[u32; 512],
+    states: &[u8; 512],
+    count: usize,
+    order: &mut [u32; 512],
+) -> Kept
+    requires { ⌜ count ≤ 512 ⌝ }
+    ensures { λ r. ⌜ ((h : History) → Jobs h (now (numbers .entry)) (now (states .entry)) count → Preceded h count (now (preds .entry)) → Whole h (now (order .exit)) r) ⌝ }
+{
+    let mut left: [u64; 8] = [0; 8];
+    let kept = keep(states, count, &mut left);
+    let mut placed: [usize; 512] = [0; 512];
+    list_jobs(preds, numbers, kept, &mut left, order, &mut placed);
+    checks::all_placed(states, &placed, count)
+}
+
+// The morning sheet of a log, in the lent list. On a refusal the list stays.
+pub fn list_sheet(log: &[u8], out: &mut [u32]) -> Listed
+    ensures { λ r. ⌜ answered r (now (out .exit)) ≡ list-sheet (now (log .entry)) (now (out .entry)) ⌝ }
+{
+    let mut numbers: [u32; 512] = [0; 512];
+    let mut states: [u8; 512] = [0; 512];
+    let mut steps: [u32; 4096] = [0; 4096];
+    match logs::read_jobs(log, &mut numbers, &mut states, &mut steps) {
+        Read::Fault(code, at) => match code {
+            11 => Listed::Length,
+            12 => Listed::Form(at),
+            13 => Listed::Turn(at),
+            _ => Listed::TooMany(at),
+        },
+        Read::Jobs(count) => {
+            let mut preds: [u64; 4096] = [0; 4096];
+            gather(&steps, log.len() / 8, &states, &mut preds);
+            let mut moving: [u64; 8] = [0; 8];
+            let rest = find_moving(&preds, &states, count, &mut moving);
+            if out.len() < rest {
+                return Listed::Short(rest);
+            }
+            let mut order: [u32; 512] = [0; 512];
+            match list_all(&preds, &numbers, &states, count, &mut order) {
+                Kept::Missing => Listed::NoOrder,
+                Kept::All(kept) => {
+                    let mut sheet: [u32; 512] = [0; 512];
+                    pick(&order, kept, &numbers, count, &moving, &mut sheet);
+                    copy_out(&sheet, rest, out);
+                    Listed::Done(rest)
+                }
+            }
         }
     }
 }

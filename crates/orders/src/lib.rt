@@ -1,7 +1,8 @@
-// The checker of a proposed order and the lister of one, as other crates, C and Rust call them. The work is done in `checks` and `lists`.
+// The checker of a proposed order, and the listers of one and of the morning sheet, as other crates, C and Rust call them. The work is done in `checks` and `lists`.
 ghost use mathlib.Core.Path.{_≡_};
 ghost use Prim.Native.Nat.{_+_, _*_};
 ghost use Rattle.verdicts.specs.Verdicts.{check, list-order};
+ghost use Rattle.sheet.specs.Sheet.{list-sheet};
 ghost use Rattle.checks.specs.Checks.{numbered};
 ghost use Rattle.lists.specs.Answers.{answered};
 pub use checks::Checked;
@@ -19,6 +20,13 @@ pub fn list_order(log: &[u8], out: &mut [u32]) -> Listed
     ensures { λ r. ⌜ answered r (now (out .exit)) ≡ list-order (now (log .entry)) (now (out .entry)) ⌝ }
 {
     lists::list_order(log, out)
+}
+
+// The morning sheet of a log, in the lent list. On a refusal the list stays.
+pub fn list_sheet(log: &[u8], out: &mut [u32]) -> Listed
+    ensures { λ r. ⌜ answered r (now (out .exit)) ≡ list-sheet (now (log .entry)) (now (out .entry)) ⌝ }
+{
+    lists::list_sheet(log, out)
 }
 
 // ---- for C and Rust
@@ -40,4 +48,14 @@ pub extern "C" fn reedtangle_list_order(log: &[u8], out: &mut [u32]) -> u64
 {
     let l = list_order(log, out);
     (l.code() as u64) * 4294967296 + (l.place() as u64)
+}
+
+// `list_sheet`: code times 2^32 plus place.
+#[no_mangle]
+pub extern "C" fn reedtangle_list_sheet(log: &[u8], out: &mut [u32]) -> u64
+    ensures { λ r. ⌜ (r ≡ list-sheet (now (log .entry)) (now (out .entry)) .code * 4294967296 + list-sheet (now (log .entry)) (now (out .entry)) .place)
+        × (now (out .exit) ≡ list-sheet (now (log .entry)) (now (out .entry)) .list) ⌝ }
+{
+    let s = list_sheet(log, out);
+    (s.code() as u64) * 4294967296 + (s.place() as u64)
 }

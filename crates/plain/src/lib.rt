@@ -1,4 +1,4 @@
-// What the two programs share of words: the lines of an answer, put into a lent list.
+// What the programs for people share of words: the lines of an answer, put into a lent list.
 ghost use Rattle.plain.specs.Stays.{Stays};
 
 // A number with words before and after it.
@@ -8,6 +8,29 @@ pub fn put_counted(before: &[u8], n: u64, after: &[u8], out: &mut [u8], at: usiz
     let a = text::put_text(before, out, at);
     let b = text::put_number(n, out, a);
     text::put_text(after, out, b)
+}
+
+// A number on a line of its own.
+fn put_line(n: u32, out: &mut [u8], at: usize) -> usize
+    ensures { λ r. ⌜ Stays at (now (out .entry)) (now (out .exit)) r ⌝ }
+{
+    put_counted(b"", n as u64, b"\n", out, at)
+}
+
+// The first numbers of a list, so many, a line for each.
+pub fn put_numbers(numbers: &[u32], count: usize, out: &mut [u8], at: usize) -> usize
+    ensures { λ r. ⌜ Stays at (now (out .entry)) (now (out .exit)) r ⌝ }
+{
+    let mut to = at;
+    let mut i: usize = 0;
+    while i < count {
+        if numbers.len() <= i {
+            return to;
+        }
+        to = put_line(numbers[i], out, to);
+        i += 1;
+    }
+    to
 }
 
 // The first line of an answer that accepts: how many jobs are kept.

@@ -9,14 +9,14 @@ use Rattle.lister.proofs.put_answer.Tie as tie
 put-accepted-requires : tie.Need-put-accepted-requires
 put-accepted-requires c κs = search needs
 
-put-order-requires : tie.Need-put-order-requires
-put-order-requires c κs = search needs
+put-numbers-requires : tie.Need-put-numbers-requires
+put-numbers-requires c κs = search needs
 
 same-length : tie.Need-same-length
 same-length c = search needs
 
 returns : tie.Need-returns
-returns c = c .before .before .put-order .ensures (c .before .before .before .before .before .before .put-accepted .ensures (omega arith))
+returns c = c .before .before .put-numbers .ensures (c .before .before .before .before .before .before .put-accepted .ensures (omega arith))
 
 put-refused-requires : tie.Need-put-refused-requires
 put-refused-requires c κs = search needs
@@ -62,7 +62,7 @@ put-answer-spec =
     tie.close
     (tie.spec
     put-accepted-requires
-    put-order-requires
+    put-numbers-requires
     same-length
     returns
     put-refused-requires

@@ -1,19 +1,19 @@
--- `lister::put_order` meets its contract, and ends. The loop's invariant: the place is within the buffer if the first was, and the buffer keeps its length.
+-- `plain::put_numbers` meets its contract, and ends. The loop's invariant: the place is within the buffer if the first was, and the buffer keeps its length.
 -- Assumes nothing.
 use mathlib.Core.Path.{_≡_}
 use Prim.Native.Nat.{_-_, _≤_}
 use native.Mathlib.Omega.{arith}
 use borrow.Author.Needs.{needs}
 use lib.ListN.{length}
 use Rattle.plain.specs.Stays.{Stays}
-use Rattle.lister.proofs.put_order.Statement.{statement}
-use Rattle.lister.proofs.put_order.Tie as tie
+use Rattle.plain.proofs.put_numbers.Statement.{statement}
+use Rattle.plain.proofs.put_numbers.Tie as tie
 
 abbrev Inv-loop : tie.InvT-loop
-Inv-loop order count out₀ at to₀ i₀ out to i = (Stays at out₀ out to) × (i ≤ count) × (length out ≡ length out₀)
+Inv-loop numbers count out₀ at to₀ i₀ out to i = (Stays at out₀ out to) × (i ≤ count) × (length out ≡ length out₀)
 
 abbrev μ-loop : tie.MeasureT-loop
-μ-loop order count out₀ at to₀ i₀ out to i = count - i
+μ-loop numbers count out₀ at to₀ i₀ out to i = count - i
 
 loop-holds : tie.Need-loop-holds Inv-loop μ-loop
 loop-holds c = search needs
@@ -48,8 +48,8 @@ same-length-2 c = search needs
 returns-2 : tie.Need-returns-2 Inv-loop μ-loop
 returns-2 c = search needs
 
-pub put-order-spec : {M : Type 1} → statement M
-put-order-spec =
+pub put-numbers-spec : {M : Type 1} → statement M
+put-numbers-spec =
     tie.close
     (tie.spec
     Inv-loop
