@@ -23,6 +23,12 @@ use Rattle.rows.proofs.step_slot.Kinds as step-kinds
 use Rattle.rows.proofs.step_slot.Reads as step-reads
 use Rattle.rows.proofs.write_set.Kinds as write-kinds
 use Rattle.rows.proofs.write_set.Reads as write-reads
+use Rattle.rows.proofs.leading.Kinds as leading-kinds
+use Rattle.rows.proofs.leading.Reads as leading-reads
+use Rattle.rows.proofs.hand_on.Kinds as hand-kinds
+use Rattle.rows.proofs.hand_on.Reads as hand-reads
+use Rattle.rows.proofs.vacate.Kinds as vacate-kinds
+use Rattle.rows.proofs.vacate.Reads as vacate-reads
 use Rattle.rows.proofs.leave_slot.Kinds as leave-kinds
 use Rattle.rows.proofs.leave_slot.Reads as leave-reads
 use Rattle.rows.proofs.end_slot.Kinds as end-kinds
@@ -35,6 +41,9 @@ one-touching κs a x y s t p q = p ∙ sym q
 
 pub one-has-altered : One 1 altered-kinds.ps altered-kinds.r altered-reads.Post
 one-has-altered κs a x y s t p q = p ∙ sym q
+
+pub one-leading : One 1 leading-kinds.ps leading-kinds.r leading-reads.Post
+one-leading κs a x y s t p q = p ∙ sym q
 
 -- ---- the leads and the sets changed, which are the first two parameters of a step and the second and third of the others
 
@@ -66,6 +75,21 @@ pub one-write-set : (κs : Lfts 2) (a : Dens κs write-kinds.ps) (x y : resT wri
     → write-reads.Post κs a y t
     → (x ≡ y) × (now (s .1 .0) ≡ now (t .1 .0)) × (now (s .1 .1 .0) ≡ now (t .1 .1 .0))
 one-write-set κs a x y s t p q = one-write p q
+
+pub one-hand-on : (κs : Lfts 2) (a : Dens κs hand-kinds.ps) (x y : resT hand-kinds.r κs .Denot)
+    (s t : AtExit (endedOf 2 hand-kinds.ps hand-kinds.r) κs)
+    → hand-reads.Post κs a x s
+    → hand-reads.Post κs a y t
+    → (now (s .1 .0) ≡ now (t .1 .0)) × (now (s .1 .1 .0) ≡ now (t .1 .1 .0))
+one-hand-on κs a x y s t p q = (p .left-leads ∙ sym (q .left-leads), p .left-sets ∙ sym (q .left-sets))
+
+-- the numbers alone
+pub one-vacate : (κs : Lfts 1) (a : Dens κs vacate-kinds.ps) (x y : resT vacate-kinds.r κs .Denot)
+    (s t : AtExit (endedOf 1 vacate-kinds.ps vacate-kinds.r) κs)
+    → vacate-reads.Post κs a x s
+    → vacate-reads.Post κs a y t
+    → (x ≡ y) × (now (s .1 .0) ≡ now (t .1 .0))
+one-vacate κs a x y s t p q = (p .0 ∙ sym (q .0), p .1 ∙ sym (q .1))
 
 -- ---- the numbers too, which are the second parameter
 

@@ -12,7 +12,7 @@ use lib.ListN.{getD}
 use Rattle.graph.specs.Decide.{some-of}
 use Rattle.marks.specs.Marks.{bit, without, tab}
 use Rattle.history.specs.Events.{Kind, read, write, add}
-use Rattle.held.specs.Held.{Held, touched, marks-word, opened-at}
+use Rattle.held.specs.Held.{Held, touched, marks-word, opened-at, left-at}
 use Rattle.late.specs.Late.{named}
 use Rattle.late.specs.LateHeld.{put-down, leads-back}
 use Rattle.rows.specs.declared.Deed.{Deed}
@@ -41,6 +41,11 @@ pub record Opens (h : Held) (s free : ℕ) (leads sets : List ℕ) : Type 0 wher
   pub left-free : free ≡ opened-at h 0 s .free
   pub left-leads : leads ≡ opened-at h 0 s .leads
   pub left-sets : sets ≡ opened-at h 0 s .sets
+
+-- what is left of the leads and the sets where slot s is left and the rows that pass t take over
+pub record Leaves (h : Held) (t : ℕ → Bool) (s : ℕ) (leads sets : List ℕ) : Type 0 where
+  pub left-leads : leads ≡ left-at h t s .leads
+  pub left-sets : sets ≡ left-at h t s .sets
 
 -- what the writes of cells leave. They are refused where the slot would lead to itself
 pub record Writes (h : Held) (s : ℕ) (cs : List ℕ) (refused : Bool) (leads sets : List ℕ) : Type 0 where

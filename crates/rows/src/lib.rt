@@ -1,16 +1,17 @@
 // The rows: what is looked at and changed in the rows of a state, on the arrays that are lent. Who comes to lead to a slot at its step (`touching`), the step
-// (`step_slot`), the writes of a cell set (`write_set`); a slot opened (`open_slot`), ended (`end_slot`) and left (`leave_slot`), and whether it has altered a cell
-// (`has_altered`). Any number is taken as a slot, modulo 32. The crate `slots` has the requests over them, with the tests that they begin with and the answers.
+// (`step_slot`), the writes of a cell set (`write_set`); a slot opened (`open_slot`), ended (`end_slot`) and left (`leave_slot`), both by their parts (`leading`, `hand_on`,
+// `vacate`), and whether it has altered a cell (`has_altered`). Any number is taken as a slot, modulo 32. The crate `slots` has the requests over them, with the tests that they begin with and the answers.
 ghost use mathlib.Core.Path.{_≡_};
 ghost use mathlib.Core.Bool.{false, _&&_, cond};
 ghost use Prim.Native.Nat.{_+_, _-_, _*_, _/_, _%_, _^_, _≤_, _<_};
+ghost use lib.Bits.{bitOr};
 ghost use lib.Dec.{leb, eqb};
 ghost use lib.ListN.{getD, take, drop};
 ghost use Rattle.marks.specs.Marks.{bit, mask-of, tab};
 ghost use Rattle.history.specs.Events.{write};
 ghost use Rattle.held.specs.Held.{has-past, altered, ended-at, abandoned-at};
 ghost use Rattle.late.specs.Late.{named};
-ghost use Rattle.rows.specs.Rows.{rows-of, links-of, sets-only, kind-of, Opens, Writes, leads-to, met, touches, meets-some, theirs, looks-from, looks-twice, clash-word, past-word, gain, struck, gained, blanked, folded, put-own, marked-own, joined-own};
+ghost use Rattle.rows.specs.Rows.{rows-of, links-of, sets-only, kind-of, Opens, Writes, Leaves, leads-to, met, touches, meets-some, theirs, looks-from, looks-twice, clash-word, past-word, gain, put, struck, gained, blanked, folded, put-own, marked-own, joined-own};
 use cells::Cell;
 use cells::CellSet;
 
@@ -50,18 +51,18 @@ impl Deed {
 
 // ---- masks of slots
 
-// The other open slots whose rows lead to the slot.
-fn leading(free: u32, leads: &[u32; 32], slot: Slot) -> u32
-    requires { ⌜ slot .0 < 32 ⌝ }
-    ensures { λ r. ⌜ r ≡ mask-of 32 (leads-to free (now (leads .entry)) (slot .0)) ⌝ }
+// The other open slots whose rows lead to the slot: who takes over at its end.
+pub fn leading(free: u32, leads: &[u32; 32], slot: Slot) -> u32
+    ensures { λ r. ⌜ r ≡ mask-of 32 (leads-to free (now (leads .entry)) (slot .0 % 32)) ⌝ }
 {
+    let own = slot.0 % 32;
     let mut found: u32 = 0;
     let mut i: u32 = 0;
     while i < 32 {
-        found |= ((leads[i as usize] >> slot.0) & 1) << i;
+        found |= ((leads[i as usize] >> own) & 1) << i;
         i += 1;
     }
-    found & !(1u32 << slot.0) & !free
+    found & !(1u32 << own) & !free
 }
 
 // ---- clashes
@@ -425,7 +426,30 @@ pub fn has_altered(sets: &[u64; 512], slot: Slot) -> bool
     !load(sets, ((slot.0 % 32) as usize) * 16 + 4).is_empty()
 }
 
-// The slot is free: its row blank, and no row leads to it.
+// The slot's row is blank and no row leads to it, and the slots of the mask have taken over what it held: its sets, and its leads to open slots. Whether the slot
+// itself is in the mask is all the same.
+pub fn hand_on(free: u32, leads: &mut [u32; 32], sets: &mut [u64; 512], from: u32, slot: Slot)
+    ensures { λ _. ⌜ Leaves (links-of free (now (leads .entry)) (now (sets .entry))) (bit from) (slot .0 % 32) (now (leads .exit)) (now (sets .exit)) ⌝ }
+{
+    let own = Slot(slot.0 % 32);
+    let others = from & !(1u32 << own.0);
+    fold_sets(sets, others, own);
+    fold_leads(free, leads, others, own);
+    strike(leads, own);
+    blank(sets, own);
+}
+
+// The slot has no number and is free.
+pub fn vacate(free: u32, numbers: &mut [u32; 32], slot: Slot) -> u32
+    ensures { λ r. ⌜ (r ≡ bitOr free (2 ^ (slot .0 % 32))) × (now (numbers .exit) ≡ put (now (numbers .entry)) (slot .0 % 32) 0) ⌝ }
+{
+    let own = Slot(slot.0 % 32);
+    let rows = &mut numbers[..];
+    rows[own.0 as usize] = 0;
+    free | (1u32 << own.0)
+}
+
+// The slot is free: its row blank, and no row leads to it. None takes over.
 pub fn leave_slot(
     free: u32,
     numbers: &mut [u32; 32],
@@ -435,12 +459,8 @@ pub fn leave_slot(
 ) -> u32
     ensures { λ r. ⌜ rows-of r (now (numbers .exit)) (now (leads .exit)) (now (sets .exit)) ≡ abandoned-at (rows-of free (now (numbers .entry)) (now (leads .entry)) (now (sets .entry))) (slot .0 % 32) ⌝ }
 {
-    let own = Slot(slot.0 % 32);
-    let rows = &mut numbers[..];
-    rows[own.0 as usize] = 0;
-    strike(leads, own);
-    blank(sets, own);
-    free | (1u32 << own.0)
+    hand_on(free, leads, sets, 0, slot);
+    vacate(free, numbers, slot)
 }
 
 // The slot ends: the other open rows that lead to it take over, and it is left.
@@ -453,9 +473,7 @@ pub fn end_slot(
 ) -> u32
     ensures { λ r. ⌜ rows-of r (now (numbers .exit)) (now (leads .exit)) (now (sets .exit)) ≡ ended-at (rows-of free (now (numbers .entry)) (now (leads .entry)) (now (sets .entry))) (slot .0 % 32) ⌝ }
 {
-    let own = Slot(slot.0 % 32);
-    let from = leading(free, leads, own);
-    fold_sets(sets, from, own);
-    fold_leads(free, leads, from, own);
-    leave_slot(free, numbers, leads, sets, slot)
+    let from = leading(free, leads, slot);
+    hand_on(free, leads, sets, from, slot);
+    vacate(free, numbers, slot)
 }

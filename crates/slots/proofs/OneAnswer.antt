@@ -24,8 +24,12 @@ use Rattle.slots.proofs.Answer.job.Kinds as job-kinds
 use Rattle.slots.proofs.Answer.job.Reads as job-reads
 use Rattle.slots.proofs.slot_for.Kinds as slot-kinds
 use Rattle.slots.proofs.slot_for.Reads as slot-reads
-use Rattle.slots.proofs.cell_in.Kinds as cell-kinds
-use Rattle.slots.proofs.cell_in.Reads as cell-reads
+use Rattle.slots.proofs.closes.Kinds as closes-kinds
+use Rattle.slots.proofs.closes.Reads as closes-reads
+use Rattle.slots.proofs.open_job.Kinds as open-kinds
+use Rattle.slots.proofs.open_job.Reads as open-reads
+use Rattle.slots.proofs.cell_in.Kinds as cell-in-kinds
+use Rattle.slots.proofs.cell_in.Reads as cell-in-reads
 use Rattle.slots.proofs.job_in.Kinds as job-in-kinds
 use Rattle.slots.proofs.job_in.Reads as job-in-reads
 use Rattle.slots.proofs.step_in_place.Kinds as in-place-kinds
@@ -70,12 +74,15 @@ one-code κs a x y s t p q = p ∙ sym q
 pub one-job : One 0 job-kinds.ps job-kinds.r job-reads.Post
 one-job κs a x y s t p q = one-part (λ (r : JobNumber). r .0) (λ n. record { 0 = n }) (λ r. refl) x y p q
 
--- ---- the fields of a request
+-- ---- what is looked for, and the fields of a request
 
 pub one-slot-for : One 1 slot-kinds.ps slot-kinds.r slot-reads.Post
 one-slot-for κs a x y s t p q = p ∙ sym q
 
-pub one-cell-in : One 0 cell-kinds.ps cell-kinds.r cell-reads.Post
+pub one-closes : One 1 closes-kinds.ps closes-kinds.r closes-reads.Post
+one-closes κs a x y s t p q = p ∙ sym q
+
+pub one-cell-in : One 0 cell-in-kinds.ps cell-in-kinds.r cell-in-reads.Post
 one-cell-in κs a x y s t p q = p ∙ sym q
 
 pub one-job-in : One 0 job-in-kinds.ps job-in-kinds.r job-in-reads.Post
@@ -90,6 +97,17 @@ pub one-step-in-place : (κs : Lfts 4) (a : Dens κs in-place-kinds.ps) (x y : r
     → in-place-reads.Post κs a y t
     → (x ≡ y) × (now (s .1 .1 .0) ≡ now (t .1 .1 .0)) × (now (s .1 .1 .1 .0) ≡ now (t .1 .1 .1 .0)) × (now (s .1 .1 .1 .1 .0) ≡ now (t .1 .1 .1 .1 .0)) × (now (s .1 .1 .1 .1 .1 .0) ≡ now (t .1 .1 .1 .1 .1 .0))
 one-step-in-place κs a x y s t p q =
+    let answer = one-answer (x .answer) (y .answer) (p .answered) (q .answered) in
+    let left = p .left ∙ sym (q .left) in
+    (λ i. record { next = left i .next; free = left i .free; answer = answer i }, λ i. left i .numbers, λ i. left i .leads, λ i. left i .sets, λ i. left i .ports)
+
+-- the same of an open
+pub one-open-job : (κs : Lfts 4) (a : Dens κs open-kinds.ps) (x y : resT open-kinds.r κs .Denot)
+    (s t : AtExit (endedOf 4 open-kinds.ps open-kinds.r) κs)
+    → open-reads.Post κs a x s
+    → open-reads.Post κs a y t
+    → (x ≡ y) × (now (s .1 .1 .0) ≡ now (t .1 .1 .0)) × (now (s .1 .1 .1 .0) ≡ now (t .1 .1 .1 .0)) × (now (s .1 .1 .1 .1 .0) ≡ now (t .1 .1 .1 .1 .0)) × (now (s .1 .1 .1 .1 .1 .0) ≡ now (t .1 .1 .1 .1 .1 .0))
+one-open-job κs a x y s t p q =
     let answer = one-answer (x .answer) (y .answer) (p .answered) (q .answered) in
     let left = p .left ∙ sym (q .left) in
     (λ i. record { next = left i .next; free = left i .free; answer = answer i }, λ i. left i .numbers, λ i. left i .leads, λ i. left i .sets, λ i. left i .ports)

@@ -272,7 +272,7 @@ pub record Looked (h : Held) (asked : Bool) (k : Kind) (j c s from : ℕ) (close
   pub cell-lt : c < 256
   pub found : Found h j s
   pub touching : from ≡ mask-of 32 (touches (h .free) (h .sets) k (s % 32) (c % 256))
-  pub closes : closed ≡ asked && circled (h .free) (h .leads) s from
+  pub closes : closed ≡ asked && circled (h .free) (h .leads) (s % 32) from
 
 module _ {h : Held} {asked : Bool} {k : Kind} {j c s from : ℕ} {closed : Bool} (l : Looked h asked k j c s from closed) where
   touched-here : from ≡ mask-of 32 (touches (h .free) (h .sets) k s c)
@@ -282,7 +282,8 @@ module _ {h : Held} {asked : Bool} {k : Kind} {j c s from : ℕ} {closed : Bool}
   step-code e =
       let f = l .found in
       code-step h asked k j c (lt-leb 256 c (l .cell-lt)) (f .first)
-      (ap (λ (b : Bool). asked && b) (circle-law h k s c refl touched-here refl (f .inside) (f .was-open)) ∙ sym (l .closes) ∙ e)
+      (ap (λ (b : Bool). asked && b) (circle-law h k s c refl touched-here refl (f .inside) (f .was-open) ∙ ap (λ (s : ℕ). circled (h .free) (h .leads) s from) (sym (mod-eq-of-lt (f .inside))))
+      ∙ sym (l .closes) ∙ e)
 
   pub asks-circle : {r : Moved} → closed ≡ true → Refused h Circle r → Asks h asked k j c r (h .numbers) (h .leads) (h .sets) (h .ports)
   asks-circle e = refuses 7 (step-code e) refl refl

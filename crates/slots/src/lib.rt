@@ -1,10 +1,10 @@
 // The slots: one request in place, on the arrays of a state that are lent (`step_in_place`), with the answers. The second profile over the same
-// arrays is two calls, a request (`late_in_place`) and a publish of a cell set (`publish_in_place`). What is looked at and changed in the rows is in the crate `rows`. The crate
-// `arbiter` keeps the state by value over them, runs many requests, and has what C and Rust link.
+// arrays is two calls, a request (`late_in_place`) and a publish of a cell set (`publish_in_place`). What is looked at and changed in the rows is in the crate `rows`. What the crate
+// `network` shares with it is public too. The crate `arbiter` keeps the state by value over them, runs many requests, and has what C and Rust link.
 ghost use mathlib.Core.Path.{_≡_};
 ghost use mathlib.Core.Bool.{_&&_};
 ghost use mathlib.Core.List.{List};
-ghost use Prim.Native.Nat.{ℕ, _<_};
+ghost use Prim.Native.Nat.{ℕ, _%_, _<_};
 ghost use lib.Count.{trailingZeros};
 ghost use Rattle.marks.specs.Marks.{mask-of};
 ghost use Rattle.history.specs.Formats.{request-of};
@@ -138,15 +138,15 @@ fn reached(free: u32, leads: &[u32; 32], slot: Slot) -> u32
 }
 
 // Is there a chain from the slot back to it, over open slots, once the slots of the mask lead to it? False where nobody asks.
-fn closes(asked: bool, free: u32, leads: &[u32; 32], slot: Slot, from: u32) -> bool
-    requires { ⌜ slot .0 < 32 ⌝ }
-    ensures { λ r. ⌜ r ≡ asked && circled free (now (leads .entry)) (slot .0) from ⌝ }
+pub fn closes(asked: bool, free: u32, leads: &[u32; 32], slot: Slot, from: u32) -> bool
+    ensures { λ r. ⌜ r ≡ asked && circled free (now (leads .entry)) (slot .0 % 32) from ⌝ }
 {
     if !asked {
         return false;
     }
-    let seen = reached(free, leads, slot);
-    let me = 1u32 << slot.0;
+    let own = Slot(slot.0 % 32);
+    let seen = reached(free, leads, own);
+    let me = 1u32 << own.0;
     (seen & me) | ((seen | me) & from) != 0
 }
 
@@ -200,7 +200,7 @@ fn put_under(ports: &mut [u32; 3], port: u32, slot: Slot)
 // ---- one request of each kind. Where no ports are lent they stay, whatever they are
 
 // The job field of an open names the port.
-fn open_job(
+pub fn open_job(
     next: u64,
     free: u32,
     numbers: &mut [u32; 32],
@@ -332,7 +332,7 @@ fn wide(b: u8) -> u32
     b as u32
 }
 
-// The cell field of a request, and its job field. The crate `locking` reads a request by them too.
+// The cell field of a request, and its job field. The crates `locking` and `network` read a request by them too.
 pub fn cell_in(request: [u8; 8]) -> u32
     ensures { λ r. ⌜ r ≡ request-of request .cell ⌝ }
 {

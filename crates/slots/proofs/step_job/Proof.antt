@@ -1,5 +1,5 @@
 -- `slots::step_job` meets its contract: a law of RequestLaws for each way out. Assumes nothing.
-use mathlib.Core.List.{List, []}
+use mathlib.Core.List.{List}
 use Prim.Native.Nat.{ℕ}
 use borrow.Author.Needs.{needs}
 use Rattle.held.specs.Held.{Held}
@@ -24,9 +24,6 @@ state c ports = let a = c .before .before .before .args in lent (a .next) (a .fr
 found : (c : tie.Else2) (ports : List ℕ) → Found (state c ports) (c .before .before .before .args .job .0) (c .before .slot-for .result)
 found c ports = slot-found (state c ports) (c .before .before .before .args .job .0) (c .before .slot-for .ensures) (c .if2 .left)
 
-closes-requires : tie.Need-closes-requires
-closes-requires c κs = found (c .before .before .before) [] .inside
-
 looked : (c : tie.After-closes) (ports : List ℕ)
     → let e = c .before .before .before .before in
     let a = e .before .before .before .args in
@@ -47,5 +44,5 @@ returns-granted c =
 pub step-job-spec : {M : Type 1} → statement M
 step-job-spec =
     tie.close
-    (tie.spec (λ c κs. search needs) returns-no-cell (λ c κs. search needs) (λ c κs. search needs) returns-not-open (λ c. search needs) (λ c κs. search needs) closes-requires
+    (tie.spec (λ c κs. search needs) returns-no-cell (λ c κs. search needs) (λ c κs. search needs) returns-not-open (λ c. search needs) (λ c κs. search needs) (λ c κs. search needs)
     (λ c κs. search needs) returns-circle (λ c κs. search needs) (λ c κs. search needs) returns-granted)
