@@ -219,6 +219,20 @@ def pipe(program, data, out):
     return 0
 
 
+def act(words, top, data, out):
+    """What the first word asks: writes the two files, pipes the input to a program, or compares the files with what they should be."""
+    if words[0] == "make":
+        for name, content in (("stdin", data), ("stdout", out)):
+            with open(os.path.join(top, name), "wb") as f:
+                f.write(content)
+        return 0
+    if words[0] == "pipe":
+        return pipe(words[1], data, out)
+    same = all(open(os.path.join(top, name), "rb").read() == content for name, content in (("stdin", data), ("stdout", out)))
+    print("%d passed, %d failed" % (same, not same))
+    return not same
+
+
 def main():
     words = sys.argv[1:] or ["check"]
     data, out, spared = make()
@@ -228,16 +242,7 @@ def main():
         those = [c for i, c in enumerate(codes) if data[8 * i] == kind]
         print("%d %s; of each code %s" % (len(those), name, ", ".join("%s %d" % (c, those.count(c)) for c in sorted(set(those)))))
     print("%d adds granted where a write would not be" % spared)
-    if words[0] == "make":
-        for name, content in (("stdin", data), ("stdout", out)):
-            with open(os.path.join(TOP, name), "wb") as f:
-                f.write(content)
-        return 0
-    if words[0] == "pipe":
-        return pipe(words[1], data, out)
-    same = all(open(os.path.join(TOP, name), "rb").read() == content for name, content in (("stdin", data), ("stdout", out)))
-    print("%d passed, %d failed" % (same, not same))
-    return not same
+    return act(words, TOP, data, out)
 
 
 if __name__ == "__main__":

@@ -12,7 +12,7 @@ The replies are not the project's. They come from the class `Holds`, which keeps
 import os
 import sys
 
-from gate_input import ABANDON, ADD, BATCH, END, OPEN, PUBLISH, READ, SHAPES, WRITE, Random, pipe, request, some
+from gate_input import ABANDON, ADD, BATCH, END, OPEN, PUBLISH, READ, SHAPES, WRITE, Random, act, request, some
 
 TOP = os.path.join(os.path.dirname(os.path.abspath(__file__)), "..", "crates", "locked")
 
@@ -167,16 +167,7 @@ def main():
     for kind, name in ((READ, "reads"), (WRITE, "writes"), (ADD, "adds"), (PUBLISH, "publishes")):
         those = [c for i, c in enumerate(codes) if data[8 * i] == kind]
         print("%d %s; put off %d" % (len(those), name, those.count("10")))
-    if words[0] == "make":
-        for name, content in (("stdin", data), ("stdout", out)):
-            with open(os.path.join(TOP, name), "wb") as f:
-                f.write(content)
-        return 0
-    if words[0] == "pipe":
-        return pipe(words[1], data, out)
-    same = all(open(os.path.join(TOP, name), "rb").read() == content for name, content in (("stdin", data), ("stdout", out)))
-    print("%d passed, %d failed" % (same, not same))
-    return not same
+    return act(words, TOP, data, out)
 
 
 if __name__ == "__main__":
