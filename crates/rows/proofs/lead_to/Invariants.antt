@@ -1,0 +1,16 @@
+-- `rows::lead_to` meets its contract. The loop's invariant: the rows of the marks visited have the slot's mark, and the others are as they were.
+-- The measure is the mask of the marks left. Assumes nothing.
+use Prim.Native.Nat.{◌<◌, ◌^◌}
+use mathlib.Core.Path.{ap}
+use lib.Bits.{bit_or}
+use lib.Count.{count_trailing_zeros}
+use lib.ListN.{get_or}
+use Rattle.marks.specs.MarkLaws.{shl_one}
+use Rattle.marks.specs.MaskLaws.{Rewriting, left_inside, left_less, rewriting_start, rewriting_turn, rewriting_end}
+use Rattle.rows.proofs.lead_to.Given as goal
+
+abbrev pub invariant-loop-todo : goal.invariant-loop-todo
+invariant-loop-todo l = Rewriting 32 l.from (λ x. bit_or x (2 ^ l.slot.0)) l.initial.rows l.todo l.rows
+
+abbrev pub decreases-loop-todo : goal.decreases-loop-todo
+decreases-loop-todo l = l.todo

@@ -1,0 +1,23 @@
+-- `rows::leading` meets its contract. The loop's invariant: the marks found are those of the rows passed that lead to the slot, free or not.
+-- The measure is what is left of the rows. Assumes nothing.
+use Prim.Native.Nat.{ℕ, ◌≤◌, ◌<◌, ◌-◌, ◌*◌, ◌%◌, ◌^◌}
+use mathlib.Core.Path.{◌≡◌, refl, ap, ◌∙◌}
+use mathlib.Core.Bool.{Bool, not, ◌&&◌}
+use mathlib.Core.List.{List}
+use native.Mathlib.Nat.{mod-lt}
+use lib.Dec.{lit<, eqb}
+use lib.ListN.{get_or}
+use Rattle.marks.specs.Marks.{bit, mask_of}
+use Rattle.marks.specs.MarkLaws.{bit_pow, shl_one}
+use Rattle.marks.specs.MaskLaws.{mask_bit, mask_others}
+use Rattle.rows.proofs.leading.Given as goal
+
+-- the row leads to the slot
+abbrev pub leads_to : List ℕ → ℕ → ℕ → Bool
+leads_to leads s k = bit (get_or leads k 0) s
+
+abbrev pub invariant-loop-i : goal.invariant-loop-i
+invariant-loop-i l = (l.i ≤ 32) × (l.found ≡ mask_of l.i (leads_to l.leads l.own))
+
+abbrev pub decreases-loop-i : goal.decreases-loop-i
+decreases-loop-i l = 32 - l.i

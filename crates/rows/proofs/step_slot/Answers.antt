@@ -1,0 +1,6 @@
+-- `rows::step_slot` meets its contract, by what `lead_to` and `mark_own` ensure. Assumes nothing.
+use borrow.Author.Rules.{rules}
+use Rattle.rows.proofs.step_slot.Goals as goal
+
+pub returns : goal.returns
+returns c = (c.lead_to.ensures, c.mark_own.ensures)

@@ -1,0 +1,10 @@
+-- `rows::take_over` meets its contract: the past used cells gain, and then the past altered ones. Assumes nothing.
+use native.Mathlib.Omega.{arith}
+use borrow.Author.Rules.{rules}
+use Rattle.rows.proofs.SetLaws.{taken_over}
+use Rattle.rows.proofs.take_over.Goals as goal
+
+pub returns : goal.returns
+returns c =
+    taken_over {l₁ = c.gain_set.new.sets} {l₂ = c.gain_set-2.new.sets} 512 c.args.sets.now c.args.row.0 c.args.slot.0 (omega (arith, c.requires)) (omega (arith, c.requires))
+    c.gain_set.ensures c.gain_set-2.ensures
