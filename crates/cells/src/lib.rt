@@ -1,11 +1,13 @@
 // Cells and sets of cells: 256 marks in four words of 64, by shifts and masks. What a set is, word by word and mark by mark, and the laws over
 // any width and any number of words are in the crate marks.
+#![tactic(auto)]
+
 ghost use Rattle.std.specs.Prelude.{◌≡◌, ◌+◌, ◌/◌, ◌%◌, ◌^◌, Bool, get_or, replicate};
 ghost use Rattle.marks.specs.Marks.{bit};
 ghost use Rattle.marks.specs.Words.{marked, with_mark, union, overlap, empty};
 
 // A cell, 0 to 255: every byte is one.
-#[derive(Drop)]
+#[derive(Clone, Copy)]
 pub struct Cell(pub u8);
 
 impl Cell {
@@ -25,7 +27,7 @@ impl Cell {
 }
 
 // A set of cells: cell c is mark c % 64 of word c / 64.
-#[derive(Drop)]
+#[derive(Clone, Copy)]
 pub struct CellSet {
     pub words: [u64; 4],
 }

@@ -1,6 +1,8 @@
 // The rows: what is looked at and changed in the rows of a state, on the arrays that are lent. Who comes to lead to a slot at its step (`touching`), the step
 // (`step_slot`), the writes of a cell set (`write_set`); a slot opened (`open_slot`), ended (`end_slot`) and left (`leave_slot`), both by their parts (`leading`, `hand_on`,
 // `vacate`), and whether it has altered a cell (`has_altered`). Any number is taken as a slot, modulo 32. The crate `slots` has the requests over them, with the tests that they begin with and the answers.
+#![tactic(auto)]
+
 ghost use Rattle.std.specs.Prelude.{◌≡◌, false, ◌&&◌, cond, ◌+◌, ◌-◌, ◌*◌, ◌/◌, ◌%◌, ◌^◌, ◌≤◌, ◌<◌, leb, eqb, get_or, take, drop};
 ghost use Rattle.std.specs.Int.Bits.{bit_or};
 ghost use Rattle.marks.specs.Marks.{bit, mask_of, tab};
@@ -12,11 +14,11 @@ ghost use Rattle.rows.specs.Rows.{rows_of, links_of, sets_only, kind_of, Opens, 
 use cells::{Cell, CellSet};
 
 // A row of the state, 0 to 31. Never a job number.
-#[derive(Drop)]
+#[derive(Clone, Copy)]
 pub struct Slot(pub u32);
 
 // What a step does to its cell: it uses what is there, alters it, or both.
-#[derive(Drop)]
+#[derive(Clone, Copy)]
 pub enum Deed {
     Read,
     Write,
