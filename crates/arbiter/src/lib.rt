@@ -1,5 +1,7 @@
 // The arbiter: the state by value and its step, a run of requests, and what C and Rust link. The work is done in place on lent arrays, in the crate `slots`
 // (`step_in_place`, and for the second profile `late_in_place` and `publish_in_place`); the step by value takes the state apart, lends its arrays and puts it together again.
+#![tactic(auto)]
+
 ghost use Rattle.std.specs.Prelude.{◌≡◌, List, [], ◌++◌, ℕ, ◌+◌, ◌≤◌, length, take, drop};
 ghost use Rattle.history.specs.Formats.{bytes_of, request_of};
 ghost use Rattle.held.specs.Held.{fresh_held, answer_to, after};
@@ -13,7 +15,7 @@ pub use slots::{Answer, JobNumber, Moved, late_in_place, publish_in_place, step_
 
 // ---- the state by value
 
-#[derive(Drop)]
+#[derive(Clone, Copy)]
 pub struct State {
     pub next: u64,
     pub free: u32,
@@ -24,7 +26,7 @@ pub struct State {
 }
 
 // A state with the answer that led to it.
-#[derive(Drop)]
+#[derive(Clone, Copy)]
 pub struct Stepped {
     pub state: State,
     pub answer: Answer,
@@ -152,7 +154,7 @@ impl State {
 // ---- many requests
 
 // What `replay` answers: the bytes written, or that the room is short.
-#[derive(Drop)]
+#[derive(Clone, Copy)]
 pub enum Replayed {
     Done(usize),
     NoRoom,

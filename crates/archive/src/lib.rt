@@ -1,6 +1,8 @@
 // The coarse mode of the first profile, for the archive of document 02, order 11: one request in place, on the arrays of a state that are lent (`coarse_in_place`), the state by value
 // with its step, and what C and Rust link. Cells 0 to 4,095 stand in 256 groups of 16, and a request is answered, and moves the state, as in the exact mode with its cell's group for its cell:
 // the work is done by `step_in_place` of the crate `slots`.
+#![tactic(auto)]
+
 ghost use Rattle.std.specs.Prelude.{◌≡◌, ◌+◌, ◌*◌, ◌<◌};
 ghost use Rattle.history.specs.Formats.{request_of};
 ghost use Rattle.held.specs.Held.{fresh_held};
@@ -58,7 +60,7 @@ pub fn coarse_in_place(
 // ---- the state by value
 
 // A state of the coarse mode. It has the fields of the exact mode's and a type of its own, as its sets are of groups: a state goes on in the mode that it was started in.
-#[derive(Drop)]
+#[derive(Clone, Copy)]
 pub struct Catalogue {
     pub next: u64,
     pub free: u32,
@@ -69,7 +71,7 @@ pub struct Catalogue {
 }
 
 // A state with the answer that led to it.
-#[derive(Drop)]
+#[derive(Clone, Copy)]
 pub struct Stepped {
     pub state: Catalogue,
     pub answer: Answer,

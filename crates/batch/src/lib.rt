@@ -1,5 +1,7 @@
 // A batch: up to 64 reads, writes and adds in one call, granted all or none. Each item is a step of the arbiter, in place. A step of these kinds moves nothing but leads and
 // sets; as they were before the first is kept on the stack, and put back where a later item is refused. The ports are not lent: each contract says what holds whatever they are.
+#![tactic(auto)]
+
 ghost use Rattle.std.specs.Prelude.{◌≡◌, List, ℕ, ◌+◌, ◌≤◌, length, drop};
 ghost use Rattle.history.specs.Formats.{records, request_of};
 ghost use Rattle.slots.specs.Lent.{lent};
@@ -9,7 +11,7 @@ ghost use Rattle.batch.specs.Leaves.{numbered, Refused, Takes, Runs, Batches};
 use slots::Answer;
 
 // What a batch answers: a grant with the count of its items, or the refusal of its first item that is refused, with that item's place; or that its length is wrong.
-#[derive(Drop)]
+#[derive(Clone, Copy)]
 pub enum Batched {
     Granted(usize),
     Malformed(usize),

@@ -5,6 +5,8 @@
 // each code, how many were refused after an item was granted, how many adds the granted ones had, and how many differed. What is proved here is that the program is safe and ends.
 //
 // A request is one number, its eight bytes with the low byte first.
+#![tactic(auto)]
+
 use arbiter::{JobNumber, State};
 
 // ---- numbers from a seed
@@ -178,7 +180,7 @@ fn length_of(r: u64) -> usize {
 // ---- one by one
 
 // A code and a place, and the state after it.
-#[derive(Drop)]
+#[derive(Clone, Copy)]
 struct Told {
     code: u32,
     place: usize,

@@ -7,6 +7,8 @@
 // Logs of eleven sizes come from a generator. Each is written into room that is enough, too much or too little, and its blocks are read back so. Then its blocks are damaged, in
 // the first block, in one in the middle and in the last, with the sums as they were and with the sums mended. A line for each size has how many calls there were, how many
 // got each code, and how many differed in code, place or any byte lent.
+#![tactic(auto)]
+
 use ledger::{ReadBack, Written};
 
 // ---- bytes, all runs in spaces of one length: past the end 0 is read, and nothing is written

@@ -1,4 +1,6 @@
 // Ledger blocks: the reader of a run of blocks of 512 bytes.
+#![tactic(auto)]
+
 ghost use Rattle.std.specs.Prelude.{◌≡◌, not, [], ◌*◌, ◌%◌, ◌≤◌, ◌<◌, eqb, length, drop};
 ghost use Rattle.graph.specs.Decide.{every_of};
 ghost use Rattle.blocks.specs.Blocks.{count_wrong, fault_in, lowest_fault, first_records, read};
@@ -6,7 +8,7 @@ ghost use Rattle.sums.specs.Sums.{with_run};
 ghost use Rattle.blockreader.specs.Answers.{answered, fault_of, Unfaulted};
 
 // What the reader answers: the count of bytes of the log, or one of the refusals with its place.
-#[derive(Drop)]
+#[derive(Clone, Copy)]
 pub enum ReadBack {
     Done(usize),
     Length,
@@ -44,7 +46,7 @@ impl ReadBack {
 }
 
 // The fault of a block, with its place.
-#[derive(Drop)]
+#[derive(Clone, Copy)]
 enum Found {
     Nothing,
     Sums(usize),

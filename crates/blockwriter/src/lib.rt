@@ -1,4 +1,6 @@
 // Ledger blocks: the writer of a log in blocks of 512 bytes.
+#![tactic(auto)]
+
 ghost use Rattle.std.specs.Prelude.{◌≡◌, [], ◌+◌, ◌*◌, ◌≤◌, ◌<◌, min, length, replicate};
 ghost use Rattle.history.specs.Formats.{bytes_of};
 ghost use Rattle.blocks.specs.Blocks.{block, first_blocks, write};
@@ -6,7 +8,7 @@ ghost use Rattle.sums.specs.Sums.{with_run};
 ghost use Rattle.blockwriter.specs.Answers.{numbered};
 
 // What the writer answers: the count of bytes written, or one of the refusals.
-#[derive(Drop)]
+#[derive(Clone, Copy)]
 pub enum Written {
     Done(usize),
     Length,

@@ -2,12 +2,14 @@
 // output: the requests, how many were granted, and a sum that every reply goes into. It writes no line for a request, so that nearly all of its cost is the
 // step's. It reads into what is left of 64 KiB behind the bytes that wait, and makes the requests once there are 32 KiB, or at the end. A tail of 1 to 7 bytes
 // is not read.
+#![tactic(auto)]
+
 ghost use Rattle.std.specs.Prelude.{◌+◌, ◌<◌, ◌≤◌, length};
 
 use arbiter::{JobNumber, State};
 
 // How many requests were made and granted so far, and the sum of their replies.
-#[derive(Drop)]
+#[derive(Clone, Copy)]
 struct Tally {
     requests: u64,
     granted: u64,
@@ -48,7 +50,7 @@ fn request_at(bytes: &[u8], at: usize) -> [u8; 8]
 }
 
 // Where a run stands.
-#[derive(Drop)]
+#[derive(Clone, Copy)]
 struct Run {
     state: State,
     tally: Tally,

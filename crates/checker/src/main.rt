@@ -1,4 +1,6 @@
 // The checker: the verdict on a log and on a proposed order of its jobs, each in a file.
+#![tactic(auto)]
+
 ghost use Rattle.std.specs.Prelude.{◌≤◌, length};
 ghost use Rattle.plain.specs.Stays.{Stays};
 

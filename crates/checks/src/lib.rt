@@ -1,4 +1,6 @@
 // The checker of a proposed order. The log is read in `logs`.
+#![tactic(auto)]
+
 ghost use Rattle.std.specs.Prelude.{◌≡◌, false, cond, List, [], ℕ, ◌≤◌, ◌<◌, max, leb, length};
 ghost use Rattle.std.proofs.Math.Option.{none};
 ghost use Rattle.history.specs.Events.{History, kept, kept_steps};
@@ -10,7 +12,7 @@ ghost use Rattle.checks.specs.Checks.{numbered, kept_as};
 use logs::Read;
 
 // What the checker answers: the count of kept jobs, or one of the refusals with its place.
-#[derive(Drop)]
+#[derive(Clone, Copy)]
 pub enum Checked {
     Accepted(usize),
     Length,
@@ -88,7 +90,7 @@ fn place_order(
 }
 
 // Is every kept job placed, and how many are they?
-#[derive(Drop)]
+#[derive(Clone, Copy)]
 pub enum Kept {
     Missing,
     All(usize),

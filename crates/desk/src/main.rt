@@ -9,6 +9,8 @@
 // What is asked comes from standard input, which says at its start how it is written.
 //
 // A record is one number, its eight bytes with the low byte first: the kind, byte 1, the cell, the job. So is an answer: its code for the kind, and the job.
+#![tactic(auto)]
+
 use arbiter::{Answer, JobNumber, State, Stepped};
 use cells::CellSet;
 

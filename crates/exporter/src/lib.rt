@@ -1,4 +1,6 @@
 // The export of a log as a text in the notation of Casanova and Bernstein 1981, with the abandoned jobs left out. A log that holds an add is refused: the notation has none.
+#![tactic(auto)]
+
 ghost use Rattle.std.specs.Prelude.{◌≡◌, List, [], ◌∷◌, ◌++◌, ℕ, ◌+◌, ◌*◌, ◌≤◌, ◌<◌, length, take};
 ghost use Rattle.text.specs.Decimal.{decimal};
 ghost use Rattle.text.specs.Puts.{Puts};
@@ -12,7 +14,7 @@ ghost use Rattle.exporter.specs.Exporter.{answered, add_told, event_at, gap, sym
 use logs::Read;
 
 // What the exporter answers: the count of bytes of the text, or one of the refusals with its place.
-#[derive(Drop)]
+#[derive(Clone, Copy)]
 pub enum Exported {
     Done(usize),
     Length,

@@ -1,11 +1,13 @@
 // What the two programs share of files: one that an argument names is read, and the answer is written.
+#![tactic(auto)]
+
 ghost use Rattle.std.specs.Prelude.{◌-◌, ◌≤◌, length};
 ghost use Rattle.files.specs.Loads.{Within};
 
 use libc::STDOUT_FILENO;
 
 // How many bytes of a file came, or that it could not be read.
-#[derive(Drop)]
+#[derive(Clone, Copy)]
 pub enum Loaded {
     Bytes(usize),
     Unreadable,

@@ -1,4 +1,6 @@
 // Logs in the notation of Casanova and Bernstein 1981: a text is read byte by byte into a log, which is judged as every log is and then put down.
+#![tactic(auto)]
+
 ghost use Rattle.std.specs.Prelude.{◌≡◌, true, [], ◌++◌, ◌+◌, ◌*◌, ◌≤◌, ◌<◌, length, take, drop};
 ghost use Rattle.history.specs.Events.{History};
 ghost use Rattle.verdicts.specs.Logs.{read_log, fields};
@@ -9,7 +11,7 @@ ghost use Rattle.importer.specs.Importer.{answered, as_read, after_symbol, Fit, 
 use logs::Read;
 
 // What import answers: the count of bytes of the log, or one of the refusals with its place.
-#[derive(Drop)]
+#[derive(Clone, Copy)]
 pub enum Imported {
     Done(usize),
     Text(usize),
@@ -55,7 +57,7 @@ impl Imported {
 // ---- one byte, as in Parse of the crate notation
 
 // Where a reading stands: its phase, 0 to 7, and what is read of the symbol so far.
-#[derive(Drop)]
+#[derive(Clone, Copy)]
 struct Stand {
     phase: u32,
     kind: u8,
@@ -311,7 +313,7 @@ fn grow(log: &mut [u8], count: usize, s: Stand, phase: u32) -> usize
 }
 
 // What a text is read as: not of the form, with the place; or how many symbols it has.
-#[derive(Drop)]
+#[derive(Clone, Copy)]
 enum Parsed {
     Wrong(usize),
     Symbols(usize),

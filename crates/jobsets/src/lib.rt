@@ -1,4 +1,6 @@
 // Sets of jobs, 512 marks in eight words, and tables of such sets: the lowest job of a set, and the jobs that precede a step.
+#![tactic(auto)]
+
 ghost use Rattle.std.specs.Prelude.{◌≤◌, ◌<◌};
 ghost use Rattle.tallies.specs.Marks.{Joined, LowestMark};
 ghost use Rattle.jobsets.specs.Gains.{Table, Gains};

@@ -1,4 +1,6 @@
 // Ledger blocks, as other crates, C and Rust call them. The work is done in `blockwriter` and `blockreader`.
+#![tactic(auto)]
+
 ghost use Rattle.std.specs.Prelude.{◌≡◌, ◌+◌, ◌*◌};
 ghost use Rattle.blocks.specs.Blocks.{write, read};
 

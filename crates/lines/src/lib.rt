@@ -1,4 +1,6 @@
 // The lines that the trial program prints: for each whole record of a buffer the place, the code and the job, in decimal.
+#![tactic(auto)]
+
 ghost use Rattle.std.specs.Prelude.{◌+◌, ◌≤◌, leb, length};
 ghost use Rattle.slots.specs.Lent.{lent, numbered};
 ghost use Rattle.text.specs.Puts.{Puts};
@@ -9,7 +11,7 @@ use slots::Answer;
 
 // What a run leaves beside the arrays: the next number, the free slots, the count of bytes written and whether there was room. Where there was not,
 // nothing moved.
-#[derive(Drop)]
+#[derive(Clone, Copy)]
 pub struct Written {
     pub next: u64,
     pub free: u32,

@@ -1,4 +1,6 @@
 // The lister: the lowest-first order of the jobs of a log in a file.
+#![tactic(auto)]
+
 ghost use Rattle.std.specs.Prelude.{◌≤◌, length};
 
 use files::Loaded;

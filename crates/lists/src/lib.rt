@@ -1,4 +1,6 @@
 // The lister of an order, and of the morning sheet.
+#![tactic(auto)]
+
 ghost use Rattle.std.specs.Prelude.{◌≡◌, Bool, true, false, not, ◌&&◌, List, [], ◌++◌, ℕ, ◌+◌, ◌*◌, ◌≤◌, ◌<◌, ltb, eqb, length, get_or, set, take, drop};
 ghost use Rattle.graph.specs.Lists.{only};
 ghost use Rattle.history.specs.Events.{History, opened, kept};
@@ -219,7 +221,7 @@ fn list_jobs(
 }
 
 // What the lister answers: the count of kept jobs, or one of the refusals with its place.
-#[derive(Drop)]
+#[derive(Clone, Copy)]
 pub enum Listed {
     Done(usize),
     Length,

@@ -1,6 +1,8 @@
 // The program `locked`: request records from standard input to its end, each answered by plain locks, and a line for each on standard output as the trial program prints them; after any
 // tail a line with the number that was put off. It reads as the trial program does, into what is left of 64 KiB behind the bytes that wait, and answers them once there are 32 KiB, or at
 // the end.
+#![tactic(auto)]
+
 ghost use Rattle.std.specs.Prelude.{◌≡◌, ◌+◌, ◌≤◌, ◌<◌, length, take, drop};
 
 use arbiter::{JobNumber, State};

@@ -1,6 +1,8 @@
 // The run by plain locks: one request in place, on the arrays of a state that are lent (`lock_in_place`), and what C and Rust link. A step or a publish that another open slot bars is
 // put off with code 10, and every array stays as it was; any other request is answered, and moves the state, as in the first profile, by the crate `slots`. What a slot holds stands in
 // its own used and altered cells: a read looks at the altered cells of others, a write and an add at both. The past is not looked at.
+#![tactic(auto)]
+
 ghost use Rattle.std.specs.Prelude.{◌≡◌, [], ◌<◌};
 ghost use Rattle.history.specs.Formats.{request_of};
 ghost use Rattle.rows.specs.Rows.{rows_of};
@@ -12,7 +14,7 @@ use cells::Cell;
 use slots::{Answer, JobNumber, Slot, cell_in, job_in, slot_for, step_in_place};
 
 // What is answered by locks: put off, or what the first profile answers.
-#[derive(Drop)]
+#[derive(Clone, Copy)]
 pub enum LockAnswer {
     PutOff,
     First(Answer),
@@ -41,7 +43,7 @@ impl LockAnswer {
 }
 
 // What a request leaves beside the arrays: the next number, the free slots and the answer.
-#[derive(Drop)]
+#[derive(Clone, Copy)]
 pub struct LockMoved {
     pub next: u64,
     pub free: u32,

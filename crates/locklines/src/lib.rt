@@ -1,5 +1,7 @@
 // The lines that the program `locked` prints: for each whole record of a buffer the place, the code and the job by locks, in decimal, as the trial program's lines are, and at the end
 // how many were put off.
+#![tactic(auto)]
+
 ghost use Rattle.std.specs.Prelude.{◌≡◌, cond, ◌+◌, ◌≤◌, leb, eqb, length};
 ghost use Rattle.history_laws.specs.RecordLaws.{eight};
 ghost use Rattle.slots.specs.Lent.{lent};
@@ -14,7 +16,7 @@ use locking::LockAnswer;
 
 // What a run leaves beside the arrays: the next number, the free slots, the count of bytes written, how many were put off and whether there was room. Where there was not,
 // nothing moved.
-#[derive(Drop)]
+#[derive(Clone, Copy)]
 pub struct LockWritten {
     pub next: u64,
     pub free: u32,

@@ -1,4 +1,6 @@
 // The reading of a log into a table of its jobs, and the search for a job in it.
+#![tactic(auto)]
+
 ghost use Rattle.std.specs.Prelude.{◌≡◌, cond, List, ℕ, ◌≤◌, ◌<◌, leb, replicate};
 ghost use Rattle.history.specs.Events.{History, Kind};
 ghost use Rattle.verdicts.specs.Logs.{kind_number};
@@ -72,7 +74,7 @@ pub fn find_job(numbers: &[u32; 512], count: usize, job: u32) -> usize
 // the writes of those, then the adds, then all opens (768) and all ends (769).
 
 // What an open leaves: its fault, and how many jobs there are then.
-#[derive(Drop)]
+#[derive(Clone, Copy)]
 struct Took {
     code: u32,
     count: usize,
@@ -267,7 +269,7 @@ fn take_record(
 }
 
 // What reading a log gives: the lowest fault, its code and place, or the count of jobs.
-#[derive(Drop)]
+#[derive(Clone, Copy)]
 pub enum Read {
     Fault(u32, usize),
     Jobs(usize),

@@ -1,4 +1,6 @@
 // The morning sheet: the jobs at rest of a log in a file, in the lister's order.
+#![tactic(auto)]
+
 ghost use Rattle.std.specs.Prelude.{◌≤◌, length};
 
 use files::Loaded;

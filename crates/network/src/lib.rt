@@ -1,6 +1,8 @@
 // The network: one request in place for three stations and a master, on the arrays that are lent (`network_in_place`): of the master the numbers and the ports, of each station
 // its leads and its sets. A station holds the sets of its own cells, 0 to 84, 85 to 169 and 170 to 255; the master joins the three leads before each answer that goes by them. What is
 // done to the rows of a station is in the crate `rows`, and what the master looks for in the crate `slots`.
+#![tactic(auto)]
+
 ghost use Rattle.std.specs.Prelude.{◌≡◌, false, List, ℕ, ◌%◌, ◌<◌};
 ghost use Rattle.marks.specs.Marks.{bit};
 ghost use Rattle.history.specs.Formats.{request_of};

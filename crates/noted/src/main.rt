@@ -2,6 +2,8 @@
 //
 // Each line of the input is a case and gets one line of output. How both are written stands at the start of `stdin`. What is expected stands in `stdout`, and
 // bench/notation.py works it out a second way, with nothing shared. What is proved here is that the program is safe and ends, and nothing of its answers.
+#![tactic(auto)]
+
 ghost use Rattle.std.specs.Prelude.{◌≤◌, length};
 
 use exporter::Exported;

@@ -1,4 +1,6 @@
 // The checker of a proposed order, and the listers of one and of the morning sheet, as other crates, C and Rust call them. The work is done in `checks` and `lists`.
+#![tactic(auto)]
+
 ghost use Rattle.std.specs.Prelude.{◌≡◌, ◌+◌, ◌*◌};
 ghost use Rattle.verdicts.specs.Verdicts.{check, list_order};
 ghost use Rattle.sheet.specs.Sheet.{list_sheet};

@@ -1,4 +1,6 @@
 // What the programs for people share of words: the lines of an answer, put into a lent list.
+#![tactic(auto)]
+
 ghost use Rattle.plain.specs.Stays.{Stays};
 
 // A number with words before and after it.

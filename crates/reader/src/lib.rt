@@ -1,11 +1,13 @@
 // A log read one record at a time.
+#![tactic(auto)]
+
 ghost use Rattle.std.specs.Prelude.{◌≡◌, ◌+◌, ◌*◌};
 ghost use Rattle.std.proofs.Math.ListN.{get_elem?};
 ghost use Rattle.history.specs.Formats.{records};
 ghost use Rattle.reader.specs.Next.{told, place_after, moved_on};
 
 // The fields of a record, not judged.
-#[derive(Drop)]
+#[derive(Clone, Copy)]
 pub struct Record {
     pub kind: u8,
     pub byte1: u8,
@@ -14,7 +16,7 @@ pub struct Record {
 }
 
 // The record that is there, or that none is.
-#[derive(Drop)]
+#[derive(Clone, Copy)]
 pub enum Next {
     Record(Record),
     End,
@@ -61,7 +63,7 @@ pub fn after(log: &[u8], place: usize) -> usize
 }
 
 // A log, and the place of the next record.
-#[derive(Drop)]
+#[derive(Clone, Copy)]
 pub struct Reader<'a> {
     pub log: &'a [u8],
     pub place: usize,

@@ -9,6 +9,8 @@
 //
 // A record is one number, its eight bytes with the low byte first: the kind, byte 1, the cell, the job. So is an answer: its code for the kind, and the job or
 // the place where the job stands.
+#![tactic(auto)]
+
 use arbiter::JobNumber;
 
 // ---- lists of numbers, all of one length: past the end 0 is read, and nothing is written

@@ -2,13 +2,15 @@
 // code and job. On standard output one line: how many requests there were, how many got each code, how many granted steps each station made, and how many answers differed. The cells
 // are spread over the stations first: a cell becomes 85 times itself, modulo 256, which no two cells share, so that cells that stand side by side come to different stations.
 // A tail of 1 to 7 bytes is not read. What is proved here is that the program is safe and ends; that no answer differs is a theorem of the crate `stations`.
+#![tactic(auto)]
+
 ghost use Rattle.std.specs.Prelude.{◌<◌};
 
 use arbiter::{JobNumber, State};
 
 // ---- the network, by value
 
-#[derive(Drop)]
+#[derive(Clone, Copy)]
 struct Rooms {
     next: u64,
     free: u32,
@@ -39,7 +41,7 @@ fn fresh_rooms() -> Rooms {
 }
 
 // What the network answers, and what it leaves.
-#[derive(Drop)]
+#[derive(Clone, Copy)]
 struct Asked {
     rooms: Rooms,
     code: u32,
@@ -125,7 +127,7 @@ fn is_step(kind: u8) -> bool {
 // ---- one request
 
 // What one read of a record brought: how many bytes, and they.
-#[derive(Drop)]
+#[derive(Clone, Copy)]
 struct Taken {
     got: usize,
     bytes: [u8; 8],
@@ -149,7 +151,7 @@ fn spread_request(r: [u8; 8]) -> [u8; 8] {
 }
 
 // Where a run stands: the three rooms, and the one.
-#[derive(Drop)]
+#[derive(Clone, Copy)]
 struct Run {
     rooms: Rooms,
     one: State,

@@ -1,6 +1,8 @@
 // The coarse mode, tried: requests with cells up to 65,535 and the replies expected to them, read from standard input and asked of the proved code, each history from a
 // fresh state. The replies of the first histories are worked by hand, those of the streams after them come from an arbiter that keeps the whole history and goes by groups
 // (bench/src/coarse.rs). The text says at its start how it is written. What is proved here is that the program is safe and ends.
+#![tactic(auto)]
+
 ghost use Rattle.std.specs.Prelude.{◌<◌};
 
 use archive::{Catalogue, JobNumber};

@@ -1,6 +1,8 @@
 // The slots: one request in place, on the arrays of a state that are lent (`step_in_place`), with the answers. The second profile over the same
 // arrays is two calls, a request (`late_in_place`) and a publish of a cell set (`publish_in_place`). What is looked at and changed in the rows is in the crate `rows`. What the crate
 // `network` shares with it is public too. The crate `arbiter` keeps the state by value over them, runs many requests, and has what C and Rust link.
+#![tactic(auto)]
+
 ghost use Rattle.std.specs.Prelude.{◌≡◌, ◌&&◌, List, ℕ, ◌%◌, ◌<◌};
 ghost use Rattle.std.specs.Int.Count.{count_trailing_zeros};
 ghost use Rattle.marks.specs.Marks.{mask_of};
@@ -16,11 +18,11 @@ pub use rows::Slot;
 use rows::{Deed, end_slot, has_altered, leave_slot, open_slot, step_slot, touching, write_set};
 
 // The number of a job, issued once.
-#[derive(Drop)]
+#[derive(Clone, Copy)]
 pub struct JobNumber(pub u32);
 
 // What the arbiter answers: a grant with the job, or one of the refusals.
-#[derive(Drop)]
+#[derive(Clone, Copy)]
 pub enum Answer {
     Granted(JobNumber),
     Malformed,
@@ -73,7 +75,7 @@ impl Answer {
 }
 
 // What a request leaves beside the arrays: the next number, the free slots and the answer.
-#[derive(Drop)]
+#[derive(Clone, Copy)]
 pub struct Moved {
     pub next: u64,
     pub free: u32,

@@ -1,4 +1,6 @@
 // Words of four bytes in a run of bytes, low byte first, and the two sums over them that end a block.
+#![tactic(auto)]
+
 ghost use Rattle.std.specs.Prelude.{◌≡◌, ◌+◌, ◌*◌, ◌≤◌, length, take, drop};
 ghost use Rattle.history.specs.Formats.{bytes_of};
 ghost use Rattle.sums.specs.Sums.{WordAt, AddsUp};
@@ -32,7 +34,7 @@ pub fn word_at(bytes: &[u8], at: usize) -> u32
     word_in(bytes, at)
 }
 
-#[derive(Drop)]
+#[derive(Clone, Copy)]
 pub struct Sums {
     pub first: u32,
     pub second: u32,

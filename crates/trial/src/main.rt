@@ -1,5 +1,7 @@
 // The trial program: request records from standard input to its end, and a line for each on standard output. It reads into what is left of 64 KiB behind
 // the bytes that wait, and answers them once there are 32 KiB, or at the end.
+#![tactic(auto)]
+
 ghost use Rattle.std.specs.Prelude.{◌≡◌, ◌+◌, ◌≤◌, length, take, drop};
 
 use arbiter::{JobNumber, State};

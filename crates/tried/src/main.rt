@@ -5,6 +5,8 @@
 // checker and the lister are asked of the log that was read last: code and place are compared, and of a lent list every entry.
 //
 // Nothing is written of what is as expected but the counts, at the end. What is not, and a line that cannot be read, is shown with its number.
+#![tactic(auto)]
+
 ghost use Rattle.std.specs.Prelude.{◌≤◌, length};
 
 use arbiter::{Answer, JobNumber, State, Stepped};
@@ -57,7 +59,7 @@ fn grown(value: u64, byte: u8, is_word: bool) -> u64 {
 }
 
 // A word or a number in a line, and the place past it: nowhere where it is not there, or too large.
-#[derive(Drop)]
+#[derive(Clone, Copy)]
 struct Found {
     value: u64,
     end: usize,
@@ -114,7 +116,7 @@ fn kind_of(line: &[u8], at: usize) -> Found {
 }
 
 // What is expected, as a line says it past a colon: a code, and the job or the place that goes with it.
-#[derive(Drop)]
+#[derive(Clone, Copy)]
 struct Wanted {
     code: u64,
     number: u64,
@@ -134,7 +136,7 @@ fn want_of(line: &[u8], at: usize) -> Wanted {
 // ---- runs of numbers
 
 // A number, the step from one to the next, and how many there are. The sums are wrapping ones, so a step may count down.
-#[derive(Drop)]
+#[derive(Clone, Copy)]
 struct Run {
     value: u64,
     step: u64,
@@ -181,7 +183,7 @@ fn run_of(line: &[u8], at: usize) -> Run {
 }
 
 // A list, how many jobs were put into it from its start, which may be more than there is room for, and the place past them in the line.
-#[derive(Drop)]
+#[derive(Clone, Copy)]
 struct Jobs {
     list: [u32; 600],
     count: u64,
@@ -231,7 +233,7 @@ fn jobs_of(line: &[u8], at: usize, list: [u32; 600]) -> Jobs {
 
 // The state; the state that is being written, or that the next request is to leave, and whether it is; the bytes of the log. How many requests, states and
 // verdicts were compared, and how many lines were not as expected; of the last of them the code and the number that came.
-#[derive(Drop)]
+#[derive(Clone, Copy)]
 struct Turn {
     now: State,
     want: State,
@@ -246,7 +248,7 @@ struct Turn {
 }
 
 // What came of a line: whether it is as expected, a code and a number, and how many verdicts it was.
-#[derive(Drop)]
+#[derive(Clone, Copy)]
 struct Came {
     right: bool,
     code: u64,
@@ -481,7 +483,7 @@ fn put_rows(state: State, slots: Run, open: bool, number: u32, leads: u32) -> St
 }
 
 // A state, and whether the line that changed it could be read.
-#[derive(Drop)]
+#[derive(Clone, Copy)]
 struct Edited {
     state: State,
     fine: bool,
