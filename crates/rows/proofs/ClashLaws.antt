@@ -4,21 +4,21 @@
 -- (`clash_bit`, `past_bit`). Then the rows that clash with a step of no row (`clash_mask`), and those of them that a mask has (`mask_among`). Last the slots that come
 -- to lead to the asking one (`touched_mask`).
 -- Assumes nothing.
-use mathlib.Core.Path.{◌≡◌, refl, sym, ap, ap₂, ◌∙◌, subst}
+use mathlib.Core.Path.{◌≡◌, refl, sym, ap, ap₂, ◌∙◌}
 use mathlib.Core.Logic.{⊎_elim}
-use mathlib.Core.Bool.{Bool, true, false, not, ◌&&◌, ◌||◌, cond, and_comm, and-true, and-false, or-true, or-false, or_comm}
+use mathlib.Core.Bool.{Bool, true, false, not, ◌&&◌, ◌||◌, cond, and_comm, and-false, or-true, or-false, or_comm}
 use mathlib.Core.List.{List}
 use Prim.Native.Nat.{ℕ, ◌+◌, ◌-◌, ◌*◌, ◌/◌, ◌%◌, ◌^◌, ◌≤◌, ◌<◌}
 use native.Mathlib.Nat.{add_assoc, zero-add, lt_of_le_of_lt, lt_of_lt_of_le}
 use native.Mathlib.Omega.{arith}
-use lib.Bits.{bit_or, bit_and, and_le_r, or_lt}
+use lib.Bits.{bit_or, bit_and, and_le_r}
 use lib.Dec.{eqb, lit≤}
 use lib.ListN.{get_or}
 use lib.Pow.{pow_mono, ones_sub-lt}
 use borrow.Author.Tests.{ne_eqb}
 use Rattle.graph.specs.Decide.{by_test, answer, eq_test, lt_test}
 use Rattle.marks.specs.Marks.{bit, mask_of}
-use Rattle.marks.specs.MarkLaws.{bit_above, bit-or, bit-and, bit_others, mask_lt, mask_same, bit_put, bit_rest, test_mark}
+use Rattle.marks.specs.MarkLaws.{bit_above, bit-or, bit-and, bit_others, mask_same, bit_put, bit_rest, test_mark}
 use Rattle.marks.specs.MaskLaws.{bit_of, masked}
 use Rattle.held.specs.Held.{Aspect, as_used, as_altered, own_at, past_at, cell_at, word_at, meets, touched}
 use Rattle.rows.specs.Rows.{sets_only, kind_of}

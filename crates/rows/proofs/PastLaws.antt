@@ -14,7 +14,7 @@ use lib.Dec.{eqb}
 use lib.ListN.{length, get_or}
 use lib.Pow.{pow_pos}
 use Rattle.graph.specs.Decide.{by_test, eq_test, test_true, test_false}
-use Rattle.marks.specs.Marks.{bit, mask_of, without, tab}
+use Rattle.marks.specs.Marks.{bit, mask_of, without}
 use Rattle.marks.specs.MarkLaws.{getD_tab, tab_same, bit_zero, bit_put, bit_others, and_others}
 use Rattle.marks.specs.MaskLaws.{bit_of, masked, left_inside, Visiting, visit_start, visit_turn, visit_end}
 use Rattle.marks.specs.Words.{union, empty}

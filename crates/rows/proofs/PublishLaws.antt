@@ -19,13 +19,13 @@ use lib.Pow.{pow_mono}
 use borrow.Author.Tests.{eq-eqb, ne_eqb}
 use Rattle.graph.specs.Decide.{Decides, own_test, eq_test, le_test, lt_test, and_test, or_test, by_test, same_test, test_true, test_false, false_is, answer, some_of, some_test, some_same}
 use Rattle.graph.specs.Lists.{◌∈◌, here, later, only_keeps, only_from}
-use Rattle.marks.specs.Marks.{bit, mask_of, upto, without}
-use Rattle.marks.specs.MarkLaws.{length_tab, getD_tab, tab_same, bit_others, upto_has, upto_from, bit-or, bit_pow, bit_same, bit_above, equal_test, shl_one, test_mark}
+use Rattle.marks.specs.Marks.{bit, mask_of, upto}
+use Rattle.marks.specs.MarkLaws.{length_tab, getD_tab, bit_others, upto_has, upto_from, bit-or, bit_pow, bit_same, bit_above, equal_test, shl_one, test_mark}
 use Rattle.marks.specs.MaskLaws.{tab_of, bit_of}
 use Rattle.marks.specs.Words.{marked, union, overlap}
-use Rattle.marks.specs.WordLaws.{Fit, overlap_test, marked_union, marked_at}
+use Rattle.marks.specs.WordLaws.{overlap_test, marked_union, marked_at}
 use Rattle.history.specs.Events.{write}
-use Rattle.held.specs.Held.{Held, Aspect, as_used, as_altered, marks_word, own_at, past_at, cell_at, word_at, number_at, leads_at, open_at, meets, touched, stepped_at, left_at, ended_at}
+use Rattle.held.specs.Held.{Held, Aspect, as_used, as_altered, marks_word, own_at, past_at, cell_at, word_at, leads_at, open_at, meets, touched, stepped_at}
 use Rattle.late.specs.Late.{named}
 use Rattle.late.specs.LateHeld.{put_down, leads_back}
 use Rattle.rows.specs.Rows.{links_of, sets_only, Writes, meets_some, gained, joined_word, joined_own}

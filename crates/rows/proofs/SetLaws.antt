@@ -17,7 +17,7 @@ use lib.Bits.{bit_or, bit_and}
 use lib.Count.{count_trailing_zeros}
 use lib.Dec.{T, leb, ltb, eqb}
 use lib.ListN.{length, get_or, set, take, drop, length-set, length-take, length-drop}
-use lib.Seq.{get_or-set_same, get_or-set_other, get_or-take, get_or-drop}
+use lib.Seq.{get_or-take, get_or-drop}
 use Rattle.graph.specs.Decide.{Decides, answer, false_is, by_test, eq_test, le_test, lt_test, and_test, same_test, test_true, test_false}
 use Rattle.marks.specs.Marks.{bit, tab}
 use Rattle.marks.specs.MarkLaws.{length_tab, getD_tab, tab_same, lowest_mark}

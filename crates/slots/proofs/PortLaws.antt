@@ -14,8 +14,8 @@ use lib.ListN.{length, get_or, set}
 use lib.Pow.{ones_sub-lt}
 use borrow.Author.Tests.{le-ltb, lt-ltb}
 use Rattle.graph.specs.Decide.{eq_test, by_test}
-use Rattle.graph.specs.Lists.{only, only_only}
-use Rattle.marks.specs.Marks.{bit, without, tab, upto}
+use Rattle.graph.specs.Lists.{only_only}
+use Rattle.marks.specs.Marks.{bit, without, upto}
 use Rattle.marks.specs.MarkLaws.{tab_same, bit-and, bit_others, only_tab, ones_count, shl_one, and_others}
 use Rattle.marks.specs.MaskLaws.{count_adds, changed_end, set_tab, Rewritten, rewritten_start, rewritten_turn}
 use Rattle.rows.specs.Rows.{is_open}

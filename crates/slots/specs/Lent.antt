@@ -10,7 +10,6 @@ use Rattle.held.specs.Held.{Held, facts, moved, answer_to, after}
 use Rattle.late.specs.Late.{Ask, untested}
 use Rattle.late.specs.LateHeld.{late_answer, late_next}
 use Rattle.rows.specs.Rows.{is_open}
-use Rattle.slots.specs.declared.JobNumber.{JobNumber}
 use Rattle.slots.specs.declared.Answer.{Answer}
 use Rattle.slots.specs.declared.Answer.TheVariants.{Granted, Malformed, NoCell, NotOpen, HasWritten, Full, Spent, Circle, NoPort, PortFull}
 use Rattle.slots.specs.declared.Moved.{Moved}

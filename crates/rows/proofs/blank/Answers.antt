@@ -1,10 +1,8 @@
-use mathlib.Core.Path.{◌≡◌, ◌∙◌}
-use mathlib.Core.List.{[]}
-use Prim.Native.Nat.{◌-◌, ◌≤◌}
+use mathlib.Core.Path.{◌∙◌}
 use native.Mathlib.Numerals.{add-one}
 use native.Mathlib.Omega.{arith}
 use borrow.Author.Rules.{rules}
-use Rattle.rows.proofs.SetLaws.{written, length_written, written_blank}
+use Rattle.rows.proofs.SetLaws.{length_written, written_blank}
 use Rattle.rows.proofs.blank.Goals as goal
 
 pub bounds-all-at : goal.bounds-all-at

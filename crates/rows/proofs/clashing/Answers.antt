@@ -1,5 +1,4 @@
 -- `rows::clashing` meets its contract: each arm is the case that `twice` says. Assumes nothing.
-use borrow.Author.Rules.{rules}
 use Rattle.rows.proofs.clashing.Goals as goal
 
 pub returns-then-twice : goal.returns-then-twice

@@ -1,14 +1,9 @@
 -- `rows::clashing_rows` meets its contract. The loop's invariant: the marks found are those of the rows passed whose word has the cell's mark. The measure is what
 -- is left of the rows. Assumes nothing.
-use Prim.Native.Nat.{ℕ, ◌≤◌, ◌<◌, ◌+◌, ◌-◌}
-use mathlib.Core.Path.{◌≡◌, sym, ap, ◌∙◌}
-use mathlib.Core.Logic.{⊎_elim}
-use mathlib.Core.Bool.{not}
-use borrow.Author.Tests.{eq-eqb, ne_eqb}
+use Prim.Native.Nat.{◌≤◌, ◌-◌}
+use mathlib.Core.Path.{◌≡◌}
 use Rattle.marks.specs.Marks.{mask_of}
-use Rattle.marks.specs.MaskLaws.{mask_in, mask_out}
-use Rattle.rows.specs.Rows.{clash_word}
-use Rattle.rows.proofs.ClashLaws.{Looks, looks_small, clashes, tested, clash_mask}
+use Rattle.rows.proofs.ClashLaws.{clashes}
 use Rattle.rows.proofs.clashing_rows.Given as goal
 
 abbrev pub invariant-loop-i : goal.invariant-loop-i

@@ -1,6 +1,5 @@
 -- `rows::end_slot` meets its contract, by `slot_ends`. Assumes nothing.
 use Prim.Native.Nat.{◌%◌}
-use borrow.Author.Rules.{rules}
 use Rattle.rows.proofs.RowLaws.{slot_ends}
 use Rattle.rows.proofs.end_slot.Goals as goal
 

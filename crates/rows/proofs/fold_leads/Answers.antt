@@ -1,10 +1,8 @@
 use Prim.Native.Nat.{◌<◌}
 use mathlib.Core.Path.{refl}
 use native.Mathlib.Omega.{arith}
-use borrow.Author.Rules.{rules}
-use lib.Bits.{bit_or}
 use lib.Count.{count_trailing_zeros}
-use Rattle.marks.specs.MaskLaws.{Rewriting, left_inside, left_less, rewriting_start, rewriting_turn, rewriting_end}
+use Rattle.marks.specs.MaskLaws.{left_inside, left_less, rewriting_start, rewriting_turn, rewriting_end}
 use Rattle.rows.proofs.fold_leads.Goals as goal
 
 pub loop-todo-init : goal.loop-todo-init

@@ -1,10 +1,7 @@
 -- `rows::fold_leads` meets its contract. The loop's invariant: the rows of the marks visited have the slot's leads, and the others are as they were.
 -- The measure is the mask of the marks left. Assumes nothing.
-use Prim.Native.Nat.{◌<◌}
-use mathlib.Core.Path.{refl}
 use lib.Bits.{bit_or}
-use lib.Count.{count_trailing_zeros}
-use Rattle.marks.specs.MaskLaws.{Rewriting, left_inside, left_less, rewriting_start, rewriting_turn, rewriting_end}
+use Rattle.marks.specs.MaskLaws.{Rewriting}
 use Rattle.rows.proofs.fold_leads.Given as goal
 
 abbrev pub invariant-loop-todo : goal.invariant-loop-todo

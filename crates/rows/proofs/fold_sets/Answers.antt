@@ -5,7 +5,7 @@ use lib.Dec.{eqb}
 use borrow.Author.Rules.{rules}
 use Rattle.marks.specs.MaskLaws.{left_less, left_inside}
 use Rattle.rows.specs.Rows.{folded}
-use Rattle.rows.proofs.SetLaws.{Folding, fold_start, fold_other, fold_turn, fold_end}
+use Rattle.rows.proofs.SetLaws.{fold_start, fold_other, fold_turn, fold_end}
 use Rattle.rows.proofs.fold_sets.Goals as goal
 
 pub loop-todo-init : goal.loop-todo-init

@@ -5,7 +5,6 @@ use Prim.Native.Nat.{◌-◌, ◌*◌, ◌%◌, ◌^◌, ◌<◌}
 use native.Mathlib.Omega.{arith}
 use lib.Bits.{bit_and}
 use lib.Dec.{eqb}
-use borrow.Author.Rules.{rules}
 use Rattle.marks.specs.Marks.{bit, mask_of}
 use Rattle.rows.proofs.RowLaws.{others_mask, others_own, hands}
 use Rattle.rows.proofs.hand_on.Goals as goal

@@ -1,11 +1,8 @@
 use Prim.Native.Nat.{◌<◌}
 use mathlib.Core.Path.{sym, ◌∙◌}
 use lib.Count.{count_trailing_zeros}
-use borrow.Author.Rules.{rules}
 use Rattle.marks.specs.MaskLaws.{left_inside, left_less}
-use Rattle.held.specs.Held.{has_past}
-use Rattle.rows.specs.Rows.{sets_only}
-use Rattle.rows.proofs.PastLaws.{Gathering, gather_start, gather_in, gather_out, gather_end}
+use Rattle.rows.proofs.PastLaws.{gather_start, gather_in, gather_out, gather_end}
 use Rattle.rows.proofs.having_past.Goals as goal
 
 pub loop-todo-preserved-then-has_past : goal.loop-todo-preserved-then-has_past

@@ -1,12 +1,8 @@
 -- `rows::having_past` meets its contract. The loop's invariant: the marks found are those of the slots passed that have a past. The measure is the mask of the slots left.
 -- Assumes nothing.
-use Prim.Native.Nat.{◌<◌}
-use mathlib.Core.Path.{sym, ◌∙◌}
-use lib.Count.{count_trailing_zeros}
-use Rattle.marks.specs.MaskLaws.{left_inside, left_less}
 use Rattle.held.specs.Held.{has_past}
 use Rattle.rows.specs.Rows.{sets_only}
-use Rattle.rows.proofs.PastLaws.{Gathering, gather_start, gather_in, gather_out, gather_end}
+use Rattle.rows.proofs.PastLaws.{Gathering}
 use Rattle.rows.proofs.having_past.Given as goal
 
 abbrev pub invariant-loop-todo : goal.invariant-loop-todo

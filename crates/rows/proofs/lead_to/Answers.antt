@@ -1,12 +1,11 @@
-use Prim.Native.Nat.{◌<◌, ◌^◌}
+use Prim.Native.Nat.{◌<◌}
 use mathlib.Core.Path.{ap}
 use native.Mathlib.Omega.{arith}
-use borrow.Author.Rules.{rules}
 use lib.Bits.{bit_or}
 use lib.Count.{count_trailing_zeros}
 use lib.ListN.{get_or}
 use Rattle.marks.specs.MarkLaws.{shl_one}
-use Rattle.marks.specs.MaskLaws.{Rewriting, left_inside, left_less, rewriting_start, rewriting_turn, rewriting_end}
+use Rattle.marks.specs.MaskLaws.{left_inside, left_less, rewriting_start, rewriting_turn, rewriting_end}
 use Rattle.rows.proofs.lead_to.Goals as goal
 
 pub loop-todo-init : goal.loop-todo-init

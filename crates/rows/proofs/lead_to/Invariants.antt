@@ -1,12 +1,8 @@
 -- `rows::lead_to` meets its contract. The loop's invariant: the rows of the marks visited have the slot's mark, and the others are as they were.
 -- The measure is the mask of the marks left. Assumes nothing.
-use Prim.Native.Nat.{◌<◌, ◌^◌}
-use mathlib.Core.Path.{ap}
+use Prim.Native.Nat.{◌^◌}
 use lib.Bits.{bit_or}
-use lib.Count.{count_trailing_zeros}
-use lib.ListN.{get_or}
-use Rattle.marks.specs.MarkLaws.{shl_one}
-use Rattle.marks.specs.MaskLaws.{Rewriting, left_inside, left_less, rewriting_start, rewriting_turn, rewriting_end}
+use Rattle.marks.specs.MaskLaws.{Rewriting}
 use Rattle.rows.proofs.lead_to.Given as goal
 
 abbrev pub invariant-loop-todo : goal.invariant-loop-todo

@@ -1,10 +1,8 @@
-use Prim.Native.Nat.{ℕ, ◌≤◌, ◌<◌, ◌-◌, ◌*◌, ◌%◌, ◌^◌}
+use Prim.Native.Nat.{ℕ, ◌<◌, ◌*◌, ◌%◌, ◌^◌}
 use mathlib.Core.Path.{◌≡◌, refl, ap, ◌∙◌}
-use mathlib.Core.Bool.{Bool, not, ◌&&◌}
-use mathlib.Core.List.{List}
+use mathlib.Core.Bool.{not, ◌&&◌}
 use native.Mathlib.Nat.{mod-lt}
 use native.Mathlib.Omega.{arith}
-use borrow.Author.Rules.{rules}
 use lib.Dec.{lit<, eqb}
 use lib.ListN.{get_or}
 use Rattle.marks.specs.Marks.{bit, mask_of}

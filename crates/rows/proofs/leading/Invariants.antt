@@ -1,15 +1,11 @@
 -- `rows::leading` meets its contract. The loop's invariant: the marks found are those of the rows passed that lead to the slot, free or not.
 -- The measure is what is left of the rows. Assumes nothing.
-use Prim.Native.Nat.{ℕ, ◌≤◌, ◌<◌, ◌-◌, ◌*◌, ◌%◌, ◌^◌}
-use mathlib.Core.Path.{◌≡◌, refl, ap, ◌∙◌}
-use mathlib.Core.Bool.{Bool, not, ◌&&◌}
+use Prim.Native.Nat.{ℕ, ◌≤◌, ◌-◌}
+use mathlib.Core.Path.{◌≡◌}
+use mathlib.Core.Bool.{Bool}
 use mathlib.Core.List.{List}
-use native.Mathlib.Nat.{mod-lt}
-use lib.Dec.{lit<, eqb}
 use lib.ListN.{get_or}
 use Rattle.marks.specs.Marks.{bit, mask_of}
-use Rattle.marks.specs.MarkLaws.{bit_pow, shl_one}
-use Rattle.marks.specs.MaskLaws.{mask_bit, mask_others}
 use Rattle.rows.proofs.leading.Given as goal
 
 -- the row leads to the slot

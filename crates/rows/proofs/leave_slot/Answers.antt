@@ -1,6 +1,5 @@
 -- `rows::leave_slot` meets its contract, by `leaves`. Assumes nothing.
 use Prim.Native.Nat.{◌%◌}
-use borrow.Author.Rules.{rules}
 use Rattle.rows.proofs.RowLaws.{leaves}
 use Rattle.rows.proofs.leave_slot.Goals as goal
 

@@ -1,11 +1,9 @@
-use Prim.Native.Nat.{◌-◌, ◌^◌, ◌<◌}
+use Prim.Native.Nat.{◌<◌}
 use mathlib.Core.Path.{sym, ◌∙◌}
 use lib.Count.{count_trailing_zeros}
 use lib.Pow.{ones_sub-lt}
-use borrow.Author.Rules.{rules}
 use Rattle.marks.specs.MaskLaws.{left_inside, left_less}
-use Rattle.rows.specs.Rows.{meets_some}
-use Rattle.rows.proofs.PastLaws.{Gathering, gather_start, gather_in, gather_out, gather_end}
+use Rattle.rows.proofs.PastLaws.{gather_start, gather_in, gather_out, gather_end}
 use Rattle.rows.proofs.meeting_some.Goals as goal
 
 pub loop-todo-preserved-then-meets_some : goal.loop-todo-preserved-then-meets_some

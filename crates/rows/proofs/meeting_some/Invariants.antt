@@ -1,12 +1,8 @@
 -- `rows::meeting_some` meets its contract. The loop's invariant: the marks found are those of the slots passed that some cell touches. The measure is the mask of the slots left.
 -- Assumes nothing.
-use Prim.Native.Nat.{◌-◌, ◌^◌, ◌<◌}
-use mathlib.Core.Path.{sym, ◌∙◌}
-use lib.Count.{count_trailing_zeros}
-use lib.Pow.{ones_sub-lt}
-use Rattle.marks.specs.MaskLaws.{left_inside, left_less}
+use Prim.Native.Nat.{◌-◌, ◌^◌}
 use Rattle.rows.specs.Rows.{meets_some}
-use Rattle.rows.proofs.PastLaws.{Gathering, gather_start, gather_in, gather_out, gather_end}
+use Rattle.rows.proofs.PastLaws.{Gathering}
 use Rattle.rows.proofs.meeting_some.Given as goal
 
 abbrev pub invariant-loop-todo : goal.invariant-loop-todo

@@ -1,7 +1,6 @@
 -- `rows::open_slot` meets its contract, by `opens`. Assumes nothing.
 use Prim.Native.Nat.{◌%◌}
 use native.Mathlib.Omega.{arith}
-use borrow.Author.Rules.{rules}
 use Rattle.rows.specs.Rows.{links_of}
 use Rattle.rows.proofs.PastLaws.{opens}
 use Rattle.rows.proofs.open_slot.Goals as goal

@@ -1,5 +1,4 @@
 -- `rows::step_slot` meets its contract, by what `lead_to` and `mark_own` ensure. Assumes nothing.
-use borrow.Author.Rules.{rules}
 use Rattle.rows.proofs.step_slot.Goals as goal
 
 pub returns : goal.returns

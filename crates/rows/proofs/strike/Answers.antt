@@ -1,15 +1,13 @@
-use Prim.Native.Nat.{◌≤◌, ◌-◌, zero-le}
+use Prim.Native.Nat.{zero-le}
 use mathlib.Core.Bool.{true}
 use native.Mathlib.Omega.{arith}
 use borrow.Author.Rules.{rules}
 use borrow.Author.Tests.{le-ltb, lt-ltb}
-use lib.Dec.{ltb}
 use lib.ListN.{get_or}
 use mir.Syntax.{w32}
 use mir.Val.{Fits}
-use Rattle.marks.specs.Marks.{without}
 use Rattle.marks.specs.MarkLaws.{and_others}
-use Rattle.marks.specs.MaskLaws.{count_adds, Rewritten, rewritten_start, rewritten_turn, changed_end, set_tab}
+use Rattle.marks.specs.MaskLaws.{count_adds, rewritten_start, rewritten_turn, changed_end, set_tab}
 use Rattle.rows.proofs.strike.Goals as goal
 
 pub loop-i-init : goal.loop-i-init

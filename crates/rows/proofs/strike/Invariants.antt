@@ -1,13 +1,9 @@
 -- `rows::strike` meets its contract. The loop's invariant: each row passed is without the slot's mark, and the others are as they were.
 -- The measure is what is left of the rows. Assumes nothing.
-use Prim.Native.Nat.{◌≤◌, ◌-◌, zero-le}
-use mathlib.Core.Bool.{true}
-use borrow.Author.Tests.{le-ltb, lt-ltb}
+use Prim.Native.Nat.{◌≤◌, ◌-◌}
 use lib.Dec.{ltb}
-use lib.ListN.{get_or}
 use Rattle.marks.specs.Marks.{without}
-use Rattle.marks.specs.MarkLaws.{and_others}
-use Rattle.marks.specs.MaskLaws.{count_adds, Rewritten, rewritten_start, rewritten_turn, changed_end, set_tab}
+use Rattle.marks.specs.MaskLaws.{Rewritten}
 use Rattle.rows.proofs.strike.Given as goal
 
 abbrev pub invariant-loop-i : goal.invariant-loop-i

@@ -1,6 +1,5 @@
 -- `rows::take_over` meets its contract: the past used cells gain, and then the past altered ones. Assumes nothing.
 use native.Mathlib.Omega.{arith}
-use borrow.Author.Rules.{rules}
 use Rattle.rows.proofs.SetLaws.{taken_over}
 use Rattle.rows.proofs.take_over.Goals as goal
 

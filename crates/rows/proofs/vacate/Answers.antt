@@ -3,7 +3,6 @@ use mathlib.Core.Path.{refl, ap}
 use Prim.Native.Nat.{◌%◌, ◌<◌}
 use native.Mathlib.Omega.{arith}
 use lib.Bits.{bit_or}
-use borrow.Author.Rules.{rules}
 use Rattle.marks.specs.MarkLaws.{shl_one}
 use Rattle.marks.specs.MaskLaws.{set_tab}
 use Rattle.rows.proofs.vacate.Goals as goal

@@ -1,6 +1,5 @@
 -- `cells::CellSet::has` meets its contract: by what `place` and `mark` ensure, it tests the cell's mark in the cell's word. Assumes nothing.
 use Prim.Native.Nat.{◌/◌, ◌%◌}
-use borrow.Author.Rules.{rules}
 use lib.ListN.{get_or}
 use Rattle.marks.specs.MarkLaws.{test_mark}
 use Rattle.marks.specs.Words.{marked}

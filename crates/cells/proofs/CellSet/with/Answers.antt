@@ -1,5 +1,4 @@
 -- `cells::CellSet::with` meets its contract: by what `place` and `mark` ensure, the cell's mark goes into the cell's word. Assumes nothing.
-use borrow.Author.Rules.{rules}
 use Rattle.marks.specs.Words.{with_mark}
 use Rattle.cells.proofs.CellSet.with.Goals as goal
 

@@ -1,0 +1,8 @@
+-- `slots::cell_in` meets its contract: two bytes of cell, low byte first. Assumes nothing.
+use borrow.Author.Rules.{rules}
+use Rattle.history.specs.Formats.{request_of}
+use Rattle.slots.proofs.cell_in.Goals as goal
+
+pub returns : goal.returns
+unfolding request_of
+returns c = search rules
