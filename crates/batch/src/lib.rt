@@ -9,7 +9,7 @@ ghost use Rattle.batch.specs.Leaves.{numbered, Refused, Takes, Runs, Batches};
 use slots::Answer;
 
 // What a batch answers: a grant with the count of its items, or the refusal of its first item that is refused, with that item's place; or that its length is wrong.
-#[derive(Drop)]
+#[derive(Clone, Copy)]
 pub enum Batched {
     Granted(usize),
     Malformed(usize),
@@ -155,11 +155,10 @@ pub fn batch_in_place(
     r
 }
 
-// ---- for C and Rust
+// ---- as hosts call it; the crate `batch_c` exports it to C and Rust
 
 // `batch_in_place` on the state that the host keeps: code times 2^32 plus place.
-#[unsafe(no_mangle)]
-pub extern "C" fn reedtangle_batch(
+pub fn reedtangle_batch(
     next: &mut u64,
     free: &mut u32,
     numbers: &mut [u32; 32],

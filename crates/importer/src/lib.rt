@@ -9,7 +9,7 @@ ghost use Rattle.importer.specs.Importer.{answered, as_read, after_symbol, Fit, 
 use logs::Read;
 
 // What import answers: the count of bytes of the log, or one of the refusals with its place.
-#[derive(Drop)]
+#[derive(Clone, Copy)]
 pub enum Imported {
     Done(usize),
     Text(usize),
@@ -55,7 +55,7 @@ impl Imported {
 // ---- one byte, as in Parse of the crate notation
 
 // Where a reading stands: its phase, 0 to 7, and what is read of the symbol so far.
-#[derive(Drop)]
+#[derive(Clone, Copy)]
 struct Stand {
     phase: u32,
     kind: u8,
@@ -399,11 +399,10 @@ pub fn import_log(text: &[u8], out: &mut [u8]) -> Imported
     }
 }
 
-// ---- for C and Rust
+// ---- as hosts call it; the crate `importer_c` exports it to C and Rust
 
 // `import_log`: the code. `place` gets the place.
-#[unsafe(no_mangle)]
-pub extern "C" fn reedtangle_import(text: &[u8], out: &mut [u8], place: &mut u64) -> u32
+pub fn reedtangle_import(text: &[u8], out: &mut [u8], place: &mut u64) -> u32
     ensures { record { code = result; place = place.new; bytes = out.new } ≡ import text.now out.old }
 {
     let r = import_log(text, out);

@@ -12,7 +12,7 @@ use cells::Cell;
 use slots::{Answer, JobNumber, Slot, cell_in, job_in, slot_for, step_in_place};
 
 // What is answered by locks: put off, or what the first profile answers.
-#[derive(Drop)]
+#[derive(Clone, Copy)]
 pub enum LockAnswer {
     PutOff,
     First(Answer),
@@ -171,9 +171,8 @@ pub fn lock_in_place(
     }
 }
 
-// One request by locks on the state that the host keeps: code times 2^32 plus job.
-#[unsafe(no_mangle)]
-pub extern "C" fn reedtangle_lock_step(
+// One request by locks on the state that the host keeps: code times 2^32 plus job. The crate `locking_c` exports it to C and Rust.
+pub fn reedtangle_lock_step(
     next: &mut u64,
     free: &mut u32,
     numbers: &mut [u32; 32],
