@@ -1,14 +1,14 @@
 #!/bin/sh
 # Every table of docs/FIGURES.md that is measured, into a markdown file: bench/all.sh FILE. The picture goes beside it. Some minutes; best on a machine that
 # does nothing else. Wants cargo and valgrind, and before it, at the top of the repository:
-#   rt staticlib arbiter && rt staticlib orders && rt check trial
+#   tools/build.sh arbiter orders archive trial
 set -e
 [ $# = 1 ] || { echo "usage: bench/all.sh FILE" >&2; exit 2; }
 case $1 in /*) file=$1 ;; *) file=$PWD/$1 ;; esac
 folder=$(dirname "$file")
 cd "$(dirname "$0")"
-for f in staticlib/libarbiter.a staticlib/liborders.a  bin/trial; do
-  [ -f "../target/$f" ] || { echo "there is no target/$f: rt staticlib arbiter && rt staticlib orders && rt check trial" >&2; exit 1; }
+for f in staticlib/libarbiter.a staticlib/liborders.a staticlib/libarchive.a bin/trial; do
+  [ -f "../target/$f" ] || { echo "there is no target/$f: tools/build.sh arbiter orders archive trial" >&2; exit 1; }
 done
 command -v valgrind > /dev/null || { echo "valgrind is wanted" >&2; exit 1; }
 cargo build --release --offline --locked --quiet

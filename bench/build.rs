@@ -1,4 +1,4 @@
-// The proved run by locks, where `rt staticlib locking` has made it: without it `bench locks` has the program alone to compare.
+// The proved run by locks, where `tools/build.sh locking` has made it: without it `bench locks` has the program alone to compare.
 fn main() {
     let here = std::env::var("CARGO_MANIFEST_DIR").unwrap();
     let top = std::path::Path::new(&here).join("../target/staticlib");

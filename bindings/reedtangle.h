@@ -1,7 +1,7 @@
 /*
  * Reedtangle for C and C++: an arbiter for overlapping jobs over 256 shared cells, a checker of orders, a lister of orders and one of the morning sheet.
  *
- * The seven functions are in two archives, made by `rt staticlib arbiter` and `rt staticlib orders` (x86-64 Linux):
+ * The seven functions are in two archives, made by `tools/build.sh arbiter orders` (x86-64 Linux):
  *
  *     cc -std=c11 -I bindings host.c target/staticlib/libarbiter.a target/staticlib/liborders.a -o host
  *
@@ -218,7 +218,7 @@ uint64_t reedtangle_late_step(uint64_t *next, uint32_t *free, uint32_t *numbers,
  */
 uint64_t reedtangle_publish(uint64_t *next, uint32_t *free, uint32_t *numbers, uint32_t *leads, uint64_t *sets, uint32_t job, const uint64_t *cells);
 
-/* ---- the coarse mode: one function more, in an archive of its own, target/staticlib/libarchive.a (`rt staticlib archive`)
+/* ---- the coarse mode: one function more, in an archive of its own, target/staticlib/libarchive.a (`tools/build.sh archive`)
  *
  * Cells 0 to 4,095 in 256 groups: a cell's group is its number divided by 16, rounded down. One request on a state that the host keeps, answered as reedtangle_step answers the same request with the
  * cell's group for its cell; 2 means a cell of 4,096 or more. From a fresh state through any requests of this mode each answer is that of the whole history by groups, and the log of
@@ -234,7 +234,7 @@ enum {
 
 uint64_t reedtangle_coarse_step(uint64_t *next, uint32_t *free, uint32_t *numbers, uint32_t *leads, uint64_t *sets, uint32_t *ports, const uint8_t *request);
 
-/* ---- ledger blocks: two functions more, in an archive of their own, target/staticlib/libledger.a (`rt staticlib ledger`)
+/* ---- ledger blocks: two functions more, in an archive of their own, target/staticlib/libledger.a (`tools/build.sh ledger`)
  *
  * A log in blocks of 512 bytes: the block's number from 0 in four bytes, the count of its records in two, two zero bytes, 62 places of eight bytes,
  * and two sums of four bytes each over the 126 words before them. All blocks but the last are full. What the records say is not looked at.
@@ -254,7 +254,7 @@ uint64_t reedtangle_write_blocks(const uint8_t *log, size_t length, uint8_t *out
 /* The log in a run of blocks, in `out`. 0: as above; the run is then the one that reedtangle_write_blocks makes of that log. 21 to 24: refused. */
 uint64_t reedtangle_read_blocks(const uint8_t *blocks, size_t length, uint8_t *out, size_t room);
 
-/* ---- batches: one function more, in an archive of its own, target/staticlib/libbatch.a (`rt staticlib batch`)
+/* ---- batches: one function more, in an archive of its own, target/staticlib/libbatch.a (`tools/build.sh batch`)
  *
  * Up to 64 reads, writes and adds in one call, on a state that the host keeps, all but `ports`, which no step looks at; `length` bytes of requests. Comes back: code times 2^32 plus place.
  *
@@ -269,8 +269,8 @@ enum { REEDTANGLE_BATCH_LENGTH = 25 };
 
 uint64_t reedtangle_batch(uint64_t *next, uint32_t *free, uint32_t *numbers, uint32_t *leads, uint64_t *sets, const uint8_t *requests, size_t length);
 
-/* ---- the report's notation: two functions more, in two archives of their own, target/staticlib/libimporter.a and libexporter.a (`rt staticlib importer`,
- * `rt staticlib exporter`)
+/* ---- the report's notation: two functions more, in two archives of their own, target/staticlib/libimporter.a and libexporter.a
+ * (`tools/build.sh importer exporter`)
  *
  * A log as a text, as Casanova and Bernstein 1981 write it: B for an open, R for a read, W for a write, E for an end, the job in decimal, and of a read or
  * a write the cell in square brackets, as in `B1 R1[5] W1[6] E1`. One blank between two symbols, no leading zeros, nothing before or after, no zero byte at the end. The empty

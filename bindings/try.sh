@@ -1,6 +1,6 @@
 #!/bin/sh
 # Builds and runs the C program and the Rust tests over the archives, and the two examples of README.md.
-# Wants cc and cargo, and `rt staticlib` of arbiter, orders, archive, ledger, batch, importer and exporter before. Last line: `N passed, 0 failed`. Leaves nothing behind.
+# Wants cc and cargo, and before it `tools/build.sh arbiter orders archive ledger batch importer exporter`. Last line: `N passed, 0 failed`. Leaves nothing behind.
 cd "$(dirname "$0")/.." || exit 1
 work=$(mktemp -d) || exit 1
 trap 'rm -rf "$work"' EXIT
@@ -47,7 +47,7 @@ example() {
 }
 
 for archive in $archives $ledger $batch $coarse $notation; do
-  try "$archive is there (rt staticlib writes it)" test -f "$archive"
+  try "$archive is there (tools/build.sh writes it)" test -f "$archive"
 done
 if [ "$failed" != 0 ]; then
   echo "$passed passed, $failed failed"

@@ -1,6 +1,6 @@
 #!/bin/sh
 # One night, start to end: requests to the arbiter, the log of what it granted, an order of the jobs, and the check of that order.
-# Wants the three programs (rt check trial lister checker) and perl, which turns numbers into bytes and back.
+# Wants the three programs (tools/build.sh trial lister checker) and perl, which turns numbers into bytes and back.
 set -e
 cd "$(dirname "$0")/.."
 night=$(mktemp -d)

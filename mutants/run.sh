@@ -62,9 +62,9 @@ apply() { # CRATE EDIT
     [ "$pairs" -gt 0 ]
 }
 
-dev() { # CRATE LOG: the last line is left in `last`
-    (cd "$copy" && "$rt" dev "$1") >"$2" 2>&1
-    last=$(tail -n 1 "$2")
+dev() { # CRATE LOG: what it comes to is left in `last`
+    (cd "$copy/crates/$1" && "$rt" check) >"$2" 2>&1
+    last=$(grep '^logic=' "$2" | tail -n 1)
 }
 
 # The place and the message of the first error, with what the two sides compute to where it is said. What is not admitted only because something before it

@@ -246,7 +246,7 @@ fn picture(points: &[Point]) -> String {
 fn trial(text: &mut String, program: &str) -> bool {
     if !std::path::Path::new(program).exists() {
         text.push_str(
-            "\nThe trial program is not built (`rt check trial`), so its table is left out.\n",
+            "\nThe trial program is not built (`tools/build.sh trial`), so its table is left out.\n",
         );
         return false;
     }

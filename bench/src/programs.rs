@@ -461,7 +461,7 @@ pub fn run(programs: &str, seed: u64, logs: u32) -> bool {
     for name in ["checker", "lister", "trial"] {
         let path = Path::new(programs).join(name);
         if !path.exists() {
-            println!("there is no {}: run `rt check {name}`", path.display());
+            println!("there is no {}: run `tools/build.sh {name}` at the top of the repository", path.display());
             println!("0 passed, 1 failed");
             return true;
         }

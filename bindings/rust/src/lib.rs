@@ -1,7 +1,7 @@
 //! Reedtangle for Rust: an arbiter for overlapping jobs over 256 shared cells, a checker of orders, a lister of orders and one of the
 //! morning sheet.
 //!
-//! The work is done by the proved functions of three archives, which `rt staticlib` of `arbiter`, `orders` and `archive` writes at the top of
+//! The work is done by the proved functions of three archives, which `tools/build.sh arbiter orders archive` writes at the top of
 //! the repository; this crate lends them memory and takes their answers apart. It is plain Rust and not proved; `tests/night.rs` tries it.
 //! It has no dependencies, allocates nothing and keeps no globals.
 //!

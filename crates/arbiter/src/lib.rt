@@ -247,16 +247,10 @@ pub fn replay(first: JobNumber, requests: &[u8], answers: &mut [u8]) -> Replayed
     Replayed::Done(count * 8)
 }
 
-// ---- for C and Rust
+// ---- as hosts call them; the crate `arbiter_c` exports each to C and Rust
 
 // `replay`: the code. `written` gets the bytes written.
-#[unsafe(no_mangle)]
-pub extern "C" fn reedtangle_replay(
-    first: u32,
-    requests: &[u8],
-    answers: &mut [u8],
-    written: &mut u64,
-) -> u32
+pub fn reedtangle_replay(first: u32, requests: &[u8], answers: &mut [u8], written: &mut u64) -> u32
     ensures { record { code = result; place = written.new; bytes = answers.new } ≡ replayed first requests.now answers.old }
 {
     let r = replay(JobNumber(first), requests, answers);
@@ -265,8 +259,7 @@ pub extern "C" fn reedtangle_replay(
 }
 
 // The same with the state handed on by value from step to step, for hosts that want to see what that costs.
-#[unsafe(no_mangle)]
-pub extern "C" fn reedtangle_replay_by_value(
+pub fn reedtangle_replay_by_value(
     first: u32,
     requests: &[u8],
     answers: &mut [u8],
@@ -301,8 +294,7 @@ fn in_one(answer: Answer) -> u64
 }
 
 // One request on the state that the host keeps: code times 2^32 plus job.
-#[unsafe(no_mangle)]
-pub extern "C" fn reedtangle_step(
+pub fn reedtangle_step(
     next: &mut u64,
     free: &mut u32,
     numbers: &mut [u32; 32],
@@ -322,8 +314,7 @@ pub extern "C" fn reedtangle_step(
 }
 
 // One request of the second profile on it.
-#[unsafe(no_mangle)]
-pub extern "C" fn reedtangle_late_step(
+pub fn reedtangle_late_step(
     next: &mut u64,
     free: &mut u32,
     numbers: &mut [u32; 32],
@@ -343,8 +334,7 @@ pub extern "C" fn reedtangle_late_step(
 }
 
 // The publish of the second profile on it: a job and the four words of a cell set. It opens nothing, and so the ports are not lent: they stay, whatever they are.
-#[unsafe(no_mangle)]
-pub extern "C" fn reedtangle_publish(
+pub fn reedtangle_publish(
     next: &mut u64,
     free: &mut u32,
     numbers: &mut [u32; 32],
@@ -372,8 +362,7 @@ pub extern "C" fn reedtangle_publish(
 }
 
 // The fresh state, in what the host keeps.
-#[unsafe(no_mangle)]
-pub extern "C" fn reedtangle_fresh(
+pub fn reedtangle_fresh(
     first: u32,
     next: &mut u64,
     free: &mut u32,

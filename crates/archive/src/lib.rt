@@ -128,11 +128,10 @@ impl Catalogue {
     }
 }
 
-// ---- what C and Rust link
+// ---- as hosts call it; the crate `archive_c` exports it to C and Rust
 
 // One request on the state that the host keeps: code times 2^32 plus job. A fresh state is that of the exact mode, and the two modes do not take turns at one state.
-#[unsafe(no_mangle)]
-pub extern "C" fn reedtangle_coarse_step(
+pub fn reedtangle_coarse_step(
     next: &mut u64,
     free: &mut u32,
     numbers: &mut [u32; 32],

@@ -157,11 +157,10 @@ pub fn batch_in_place(
     r
 }
 
-// ---- for C and Rust
+// ---- as hosts call it; the crate `batch_c` exports it to C and Rust
 
 // `batch_in_place` on the state that the host keeps: code times 2^32 plus place.
-#[unsafe(no_mangle)]
-pub extern "C" fn reedtangle_batch(
+pub fn reedtangle_batch(
     next: &mut u64,
     free: &mut u32,
     numbers: &mut [u32; 32],

@@ -239,11 +239,10 @@ pub fn export_log(log: &[u8], out: &mut [u8]) -> Exported
     }
 }
 
-// ---- for C and Rust
+// ---- as hosts call it; the crate `exporter_c` exports it to C and Rust
 
 // `export_log`: the code. `place` gets the place.
-#[unsafe(no_mangle)]
-pub extern "C" fn reedtangle_export(log: &[u8], out: &mut [u8], place: &mut u64) -> u32
+pub fn reedtangle_export(log: &[u8], out: &mut [u8], place: &mut u64) -> u32
     ensures { record { code = result; place = place.new; bytes = out.new } ≡ export log.now out.old }
 {
     let e = export_log(log, out);

@@ -401,11 +401,10 @@ pub fn import_log(text: &[u8], out: &mut [u8]) -> Imported
     }
 }
 
-// ---- for C and Rust
+// ---- as hosts call it; the crate `importer_c` exports it to C and Rust
 
 // `import_log`: the code. `place` gets the place.
-#[unsafe(no_mangle)]
-pub extern "C" fn reedtangle_import(text: &[u8], out: &mut [u8], place: &mut u64) -> u32
+pub fn reedtangle_import(text: &[u8], out: &mut [u8], place: &mut u64) -> u32
     ensures { record { code = result; place = place.new; bytes = out.new } ≡ import text.now out.old }
 {
     let r = import_log(text, out);

@@ -7,11 +7,10 @@ ghost use Rattle.blocks.specs.Blocks.{write, read};
 pub use blockreader::{ReadBack, read_blocks};
 pub use blockwriter::{Written, write_blocks};
 
-// ---- for C and Rust
+// ---- as hosts call them; the crate `ledger_c` exports each to C and Rust
 
 // `write_blocks`: code times 2^32 plus place.
-#[unsafe(no_mangle)]
-pub extern "C" fn reedtangle_write_blocks(log: &[u8], out: &mut [u8]) -> u64
+pub fn reedtangle_write_blocks(log: &[u8], out: &mut [u8]) -> u64
     ensures { (result ≡ (write log.now out.old).code * 4294967296 + (write log.now out.old).place)
         × (out.new ≡ (write log.now out.old).bytes) }
 {
@@ -20,8 +19,7 @@ pub extern "C" fn reedtangle_write_blocks(log: &[u8], out: &mut [u8]) -> u64
 }
 
 // `read_blocks`: code times 2^32 plus place.
-#[unsafe(no_mangle)]
-pub extern "C" fn reedtangle_read_blocks(blocks: &[u8], out: &mut [u8]) -> u64
+pub fn reedtangle_read_blocks(blocks: &[u8], out: &mut [u8]) -> u64
     ensures { (result ≡ (read blocks.now out.old).code * 4294967296 + (read blocks.now out.old).place)
         × (out.new ≡ (read blocks.now out.old).bytes) }
 {

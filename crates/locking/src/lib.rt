@@ -173,9 +173,8 @@ pub fn lock_in_place(
     }
 }
 
-// One request by locks on the state that the host keeps: code times 2^32 plus job.
-#[unsafe(no_mangle)]
-pub extern "C" fn reedtangle_lock_step(
+// One request by locks on the state that the host keeps: code times 2^32 plus job. The crate `locking_c` exports it to C and Rust.
+pub fn reedtangle_lock_step(
     next: &mut u64,
     free: &mut u32,
     numbers: &mut [u32; 32],

@@ -31,11 +31,10 @@ pub fn list_sheet(log: &[u8], out: &mut [u32]) -> Listed
     lists::list_sheet(log, out)
 }
 
-// ---- for C and Rust
+// ---- as hosts call them; the crate `orders_c` exports each to C and Rust
 
 // `check_order`: code times 2^32 plus place.
-#[unsafe(no_mangle)]
-pub extern "C" fn reedtangle_check_order(log: &[u8], order: &[u32]) -> u64
+pub fn reedtangle_check_order(log: &[u8], order: &[u32]) -> u64
     ensures { result ≡ (check log.now order.now).code * 4294967296 + (check log.now order.now).place }
 {
     let c = check_order(log, order);
@@ -43,8 +42,7 @@ pub extern "C" fn reedtangle_check_order(log: &[u8], order: &[u32]) -> u64
 }
 
 // `list_order`: code times 2^32 plus place.
-#[unsafe(no_mangle)]
-pub extern "C" fn reedtangle_list_order(log: &[u8], out: &mut [u32]) -> u64
+pub fn reedtangle_list_order(log: &[u8], out: &mut [u32]) -> u64
     ensures { (result ≡ (list_order log.now out.old).code * 4294967296 + (list_order log.now out.old).place)
         × (out.new ≡ (list_order log.now out.old).list) }
 {
@@ -53,8 +51,7 @@ pub extern "C" fn reedtangle_list_order(log: &[u8], out: &mut [u32]) -> u64
 }
 
 // `list_sheet`: code times 2^32 plus place.
-#[unsafe(no_mangle)]
-pub extern "C" fn reedtangle_list_sheet(log: &[u8], out: &mut [u32]) -> u64
+pub fn reedtangle_list_sheet(log: &[u8], out: &mut [u32]) -> u64
     ensures { (result ≡ (list_sheet log.now out.old).code * 4294967296 + (list_sheet log.now out.old).place)
         × (out.new ≡ (list_sheet log.now out.old).list) }
 {
