@@ -573,33 +573,33 @@ fn windows(shape: u64, seed: u64, counts: &mut Counts) {
     }
 }
 
-fn say(words: &[u8]) {
-    io::write_all(libc::STDOUT_FILENO, words);
+fn say(rt: &impl Print, words: &[u8]) {
+    host::write_all(rt, words);
 }
 
-fn say_count(counts: &Counts, i: usize) {
-    say(b" ");
-    io::print_decimal(libc::STDOUT_FILENO, count(counts, i));
+fn say_count(rt: &impl Print, counts: &Counts, i: usize) {
+    say(rt, b" ");
+    host::print_decimal(rt, count(counts, i));
 }
 
-fn say_counts(counts: &Counts) {
-    say_count(counts, BATCHES);
-    say(b" batches of");
-    say_count(counts, ITEMS);
-    say(b" items; codes 0 1 2 3 7 25:");
-    say_count(counts, 0);
-    say_count(counts, 1);
-    say_count(counts, 2);
-    say_count(counts, 3);
-    say_count(counts, 7);
-    say_count(counts, 25);
-    say(b"; refused past place 0:");
-    say_count(counts, LATER);
-    say(b"; adds granted:");
-    say_count(counts, ADDS);
-    say(b"; differ:");
-    say_count(counts, DIFFER);
-    say(b"\n");
+fn say_counts(rt: &impl Print, counts: &Counts) {
+    say_count(rt, counts, BATCHES);
+    say(rt, b" batches of");
+    say_count(rt, counts, ITEMS);
+    say(rt, b" items; codes 0 1 2 3 7 25:");
+    say_count(rt, counts, 0);
+    say_count(rt, counts, 1);
+    say_count(rt, counts, 2);
+    say_count(rt, counts, 3);
+    say_count(rt, counts, 7);
+    say_count(rt, counts, 25);
+    say(rt, b"; refused past place 0:");
+    say_count(rt, counts, LATER);
+    say(rt, b"; adds granted:");
+    say_count(rt, counts, ADDS);
+    say(rt, b"; differ:");
+    say_count(rt, counts, DIFFER);
+    say(rt, b"\n");
 }
 
 fn add(sums: &mut Counts, counts: &Counts) {
@@ -621,27 +621,27 @@ fn shape_of(k: u64) -> u64 {
     }
 }
 
-fn say_name(k: u64) {
+fn say_name(rt: &impl Print, k: u64) {
     match k {
-        0 => say(b"one job at a time:"),
-        1 => say(b"few cells:"),
-        2 => say(b"bad items:"),
-        3 => say(b"32 jobs:"),
-        _ => say(b"any content:"),
+        0 => say(rt, b"one job at a time:"),
+        1 => say(rt, b"few cells:"),
+        2 => say(rt, b"bad items:"),
+        3 => say(rt, b"32 jobs:"),
+        _ => say(rt, b"any content:"),
     }
 }
 
-fn main() {
+fn main(rt: HostRuntime) {
     let mut sums = [0u64; 32];
     let mut k: u64 = 0;
     while k < 5 {
         let mut counts = [0u64; 32];
         windows(shape_of(k), k, &mut counts);
-        say_name(k);
-        say_counts(&counts);
+        say_name(&rt, k);
+        say_counts(&rt, &counts);
         add(&mut sums, &counts);
         k += 1;
     }
-    say(b"all:");
-    say_counts(&sums);
+    say(&rt, b"all:");
+    say_counts(&rt, &sums);
 }

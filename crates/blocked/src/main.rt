@@ -460,51 +460,51 @@ fn try_log(n: usize, counts: &mut Counts) {
 
 // ---- what is written
 
-fn say(words: &[u8]) {
-    io::write_all(libc::STDOUT_FILENO, words);
+fn say(rt: &impl Print, words: &[u8]) {
+    host::write_all(rt, words);
 }
 
-fn say_number(n: u64) {
-    io::print_decimal(libc::STDOUT_FILENO, n);
+fn say_number(rt: &impl Print, n: u64) {
+    host::print_decimal(rt, n);
 }
 
-fn say_count(counts: &Counts, i: usize) {
-    say(b" ");
+fn say_count(rt: &impl Print, counts: &Counts, i: usize) {
+    say(rt, b" ");
     if i < 32 {
-        say_number(counts[i]);
+        say_number(rt, counts[i]);
     }
 }
 
 // A log of n records: its line.
-fn report(n: usize) {
+fn report(rt: &impl Print, n: usize) {
     let mut counts = [0u64; 32];
     try_log(n, &mut counts);
-    say_number(n as u64);
-    say(b" records:");
-    say_count(&counts, CALLS);
-    say(b" calls; codes 0, 11, 21, 22, 23, 24:");
-    say_count(&counts, 0);
-    say_count(&counts, 11);
-    say_count(&counts, 21);
-    say_count(&counts, 22);
-    say_count(&counts, 23);
-    say_count(&counts, 24);
-    say(b"; differ:");
-    say_count(&counts, DIFFER);
-    say(b"\n");
+    say_number(rt, n as u64);
+    say(rt, b" records:");
+    say_count(rt, &counts, CALLS);
+    say(rt, b" calls; codes 0, 11, 21, 22, 23, 24:");
+    say_count(rt, &counts, 0);
+    say_count(rt, &counts, 11);
+    say_count(rt, &counts, 21);
+    say_count(rt, &counts, 22);
+    say_count(rt, &counts, 23);
+    say_count(rt, &counts, 24);
+    say(rt, b"; differ:");
+    say_count(rt, &counts, DIFFER);
+    say(rt, b"\n");
 }
 
-fn main() {
-    report(0);
-    report(1);
-    report(4);
-    report(61);
-    report(62);
-    report(63);
-    report(124);
-    report(125);
-    report(4092);
-    report(4093);
-    report(4096);
-    report(4097);
+fn main(rt: HostRuntime) {
+    report(&rt, 0);
+    report(&rt, 1);
+    report(&rt, 4);
+    report(&rt, 61);
+    report(&rt, 62);
+    report(&rt, 63);
+    report(&rt, 124);
+    report(&rt, 125);
+    report(&rt, 4092);
+    report(&rt, 4093);
+    report(&rt, 4096);
+    report(&rt, 4097);
 }

@@ -7,6 +7,7 @@
 ghost use Rattle.std.specs.Prelude.{◌+◌, ◌<◌, ◌≤◌, length};
 
 use arbiter::{JobNumber, State};
+use std::io::Read;
 
 // How many requests were made and granted so far, and the sum of their replies.
 #[derive(Clone, Copy)]
@@ -76,13 +77,11 @@ fn batch(before: Run, bytes: &[u8]) -> Run {
 }
 
 // One read behind the bytes that wait: how many came, 0 at the end or where the read failed.
-fn read_behind(buf: &mut [u8], from: usize) -> usize
+fn read_behind(input: &mut impl Read, buf: &mut [u8], from: usize) -> usize
     requires { from ≤ length buf.old }
     ensures { from + result ≤ length buf.old }
 {
-    let part = &mut buf[from..];
-    let got = libc::read(libc::STDIN_FILENO, part);
-    io::count(got, part)
+    host::read_some(input, &mut buf[from..])
 }
 
 // One turn less, and none after the end.
@@ -119,13 +118,13 @@ fn start() -> Run {
 }
 
 // All of standard input.
-fn all(buf: &mut [u8]) -> Tally {
+fn all(input: &mut impl Read, buf: &mut [u8]) -> Tally {
     let mut run = start();
     let mut waiting: usize = 0;
     // No input outlives so many turns.
     let mut turns: u64 = 4611686018427387904;
     while turns > 0 {
-        let got = read_behind(buf, waiting);
+        let got = read_behind(input, buf, waiting);
         turns = turns_left(turns, got);
         waiting += got;
         if 32768 <= waiting {
@@ -139,15 +138,15 @@ fn all(buf: &mut [u8]) -> Tally {
     last.tally
 }
 
-fn say_count(count: u64, words: &[u8]) {
-    io::print_decimal(libc::STDOUT_FILENO, count);
-    io::write_all(libc::STDOUT_FILENO, words);
+fn say_count(rt: &impl Print, count: u64, words: &[u8]) {
+    host::print_decimal(rt, count);
+    host::write_all(rt, words);
 }
 
-fn main() {
-    let mut space = io::large_buffer();
-    let tally = all(&mut space);
-    say_count(tally.requests, b" requests, ");
-    say_count(tally.granted, b" granted, ");
-    say_count(tally.sum as u64, b"\n");
+fn main(rt: HostRuntime) {
+    let mut space = host::large_buffer();
+    let tally = all(&mut rt.stdin(), &mut space);
+    say_count(&rt, tally.requests, b" requests, ");
+    say_count(&rt, tally.granted, b" granted, ");
+    say_count(&rt, tally.sum as u64, b"\n");
 }

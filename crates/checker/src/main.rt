@@ -5,7 +5,7 @@ ghost use Rattle.std.specs.Prelude.{◌≤◌, length};
 ghost use Rattle.plain.specs.Stays.{Stays};
 
 use files::Loaded;
-use libc::STDERR_FILENO;
+use std::rt::{Env, Files};
 
 // A number of four bytes, low byte first.
 fn four(a: u8, b: u8, c: u8, d: u8) -> u32 {
@@ -72,7 +72,7 @@ fn put_verdict(code: u32, place: u64, entries: u64, out: &mut [u8]) -> usize
     }
 }
 
-fn judge(log: &[u8], order: &[u32], out: &mut [u8]) {
+fn judge(rt: &impl Print, err: &impl Print, log: &[u8], order: &[u32], out: &mut [u8]) {
     let verdict = orders::check_order(log, order);
     let end = put_verdict(
         verdict.code(),
@@ -80,30 +80,39 @@ fn judge(log: &[u8], order: &[u32], out: &mut [u8]) {
         order.len() as u64,
         out,
     );
-    files::show(&out[..end]);
+    files::show(rt, err, &out[..end]);
 }
 
 // The log and the order are read in full, or up to the bytes and the entry past what a log and an order can have.
-fn run(log: &mut [u8], bytes: &mut [u8], entries: &mut [u32], out: &mut [u8]) {
-    let Loaded::Bytes(n) = files::load(1, log) else {
+fn run(
+    rt: &(impl Files + Env + Print),
+    err: &impl Print,
+    log: &mut [u8],
+    bytes: &mut [u8],
+    entries: &mut [u32],
+    out: &mut [u8],
+) {
+    let Loaded::Bytes(n) = files::load(rt, err, 1, log) else {
         return;
     };
-    let Loaded::Bytes(m) = files::load(2, bytes) else {
+    let Loaded::Bytes(m) = files::load(rt, err, 2, bytes) else {
         return;
     };
     if m % 4 != 0 {
-        io::write_all(
-            STDERR_FILENO,
+        host::write_all(
+            err,
             b"ORDER: the length is no multiple of 4, and an entry has 4 bytes\n",
         );
         return;
     }
     let count = read_entries(&bytes[..m], entries);
-    judge(&log[..n], &entries[..count], out);
+    judge(rt, err, &log[..n], &entries[..count], out);
 }
 
-fn usage() {
+fn usage(rt: &impl Print, err: &impl Print) {
     files::show(
+        rt,
+        err,
         b"usage: checker LOG ORDER\n\
         Judges an order of the jobs of a log.\n\
         LOG: records of 8 bytes, at most 4096, and at most 512 opens. A record is the kind (1 open, 2 read, 3 write, 4 end, 5 abandon, 7 add),\n\
@@ -116,14 +125,21 @@ fn usage() {
     );
 }
 
-fn main() {
-    if os::arg_count() != 3 {
-        usage();
+fn main(rt: HostRuntime) {
+    if host::arg_count(&rt) != 3 {
+        usage(&rt, &rt.stderr());
         return;
     }
     let mut log = [0u8; 32769];
     let mut bytes = [0u8; 2052];
     let mut entries = [0u32; 513];
     let mut out = [0u8; 512];
-    run(&mut log, &mut bytes, &mut entries, &mut out);
+    run(
+        &rt,
+        &rt.stderr(),
+        &mut log,
+        &mut bytes,
+        &mut entries,
+        &mut out,
+    );
 }

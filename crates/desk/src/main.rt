@@ -600,32 +600,33 @@ fn try_text(h: &mut List, text: &[u8]) {
 // ---- the report
 
 // A byte, or for a mark the count at a place. The place of the next count.
-fn say_piece(h: &List, place: usize, byte: u8) -> usize {
+fn say_piece(rt: &impl Print, h: &List, place: usize, byte: u8) -> usize {
     if byte == b'#' {
-        io::print_decimal(libc::STDOUT_FILENO, at(h, place));
+        host::print_decimal(rt, at(h, place));
         return std::num::wrapping_add_usize(place, 1);
     }
     let one = [byte];
-    io::write_all(libc::STDOUT_FILENO, &one);
+    host::write_all(rt, &one);
     place
 }
 
 // The words, with the counts for their marks.
-fn say_all(h: &List, words: &[u8]) {
+fn say_all(rt: &impl Print, h: &List, words: &[u8]) {
     let mut place = COUNTS;
     let mut i: usize = 0;
     while i < words.len() {
-        place = say_piece(h, place, words[i]);
+        place = say_piece(rt, h, place, words[i]);
         i += 1;
     }
 }
 
-fn main() {
+fn main(rt: HostRuntime) {
     let mut space = [0u8; 131072];
     let mut h = [0u64; 4608];
-    let count = io::read_full(libc::STDIN_FILENO, &mut space);
+    let count = host::read_full(&mut rt.stdin(), &mut space);
     try_text(&mut h, &space[..count]);
     say_all(
+        &rt,
         &h,
         b"# differ of # asks; codes 0 to 9: # # # # # # # # # #; # publishes granted, # records, # histories
 ",

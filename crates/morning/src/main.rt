@@ -4,6 +4,7 @@
 ghost use Rattle.std.specs.Prelude.{◌≤◌, length};
 
 use files::Loaded;
+use std::rt::{Env, Files};
 
 // The answer in words.
 fn put_answer(code: u32, place: usize, sheet: &[u32], out: &mut [u8]) -> usize
@@ -32,17 +33,25 @@ fn put_answer(code: u32, place: usize, sheet: &[u32], out: &mut [u8]) -> usize
 }
 
 // The log is read in full, or up to the byte past what a log can have.
-fn run(log: &mut [u8], sheet: &mut [u32], out: &mut [u8]) {
-    let Loaded::Bytes(n) = files::load(1, log) else {
+fn run(
+    rt: &(impl Files + Env + Print),
+    err: &impl Print,
+    log: &mut [u8],
+    sheet: &mut [u32],
+    out: &mut [u8],
+) {
+    let Loaded::Bytes(n) = files::load(rt, err, 1, log) else {
         return;
     };
     let answer = orders::list_sheet(&log[..n], sheet);
     let end = put_answer(answer.code(), answer.place(), sheet, out);
-    files::show(&out[..end]);
+    files::show(rt, err, &out[..end]);
 }
 
-fn usage() {
+fn usage(rt: &impl Print, err: &impl Print) {
     files::show(
+        rt,
+        err,
         b"usage: morning LOG\n\
         Lists the jobs of a log that are at rest: those that have ended, with no open job that leads to them by any chain of jobs that precede one another.\n\
         Whatever is granted after the log, the longer log has an order that starts with this list.\n\
@@ -54,13 +63,13 @@ fn usage() {
     );
 }
 
-fn main() {
-    if os::arg_count() != 2 {
-        usage();
+fn main(rt: HostRuntime) {
+    if host::arg_count(&rt) != 2 {
+        usage(&rt, &rt.stderr());
         return;
     }
     let mut log = [0u8; 32769];
     let mut sheet = [0u32; 512];
     let mut out = [0u8; 8192];
-    run(&mut log, &mut sheet, &mut out);
+    run(&rt, &rt.stderr(), &mut log, &mut sheet, &mut out);
 }

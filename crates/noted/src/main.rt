@@ -212,34 +212,34 @@ fn line_end(input: &[u8], at: usize) -> usize
 }
 
 // Writes the output once it is long; how much of it still waits.
-fn say(out: &[u8], n: usize, long: usize) -> usize {
+fn say(rt: &impl Print, out: &[u8], n: usize, long: usize) -> usize {
     if n < long {
         return n;
     }
-    io::write_all(libc::STDOUT_FILENO, part(out, n));
+    host::write_all(rt, part(out, n));
     0
 }
 
-fn try_lines(input: &[u8], out: &mut [u8]) {
+fn try_lines(rt: &impl Print, input: &[u8], out: &mut [u8]) {
     let mut waits: usize = 0;
     let mut at: usize = 0;
     while at < input.len() {
         let end = line_end(input, at);
         let past = try_line(&input[at..end], out, waits);
         let whole = text::put_text(b"\n", out, past);
-        waits = say(out, whole, 65536);
+        waits = say(rt, out, whole, 65536);
         at = end + 1;
     }
-    say(out, waits, 0);
+    say(rt, out, waits, 0);
 }
 
 // An input that fills the whole buffer may be longer: that is said.
-fn main() {
+fn main(rt: HostRuntime) {
     let mut input = [0u8; 131072];
     let mut out = [0u8; 204800];
-    let count = io::read_full(libc::STDIN_FILENO, &mut input);
-    try_lines(part(&input, count), &mut out);
+    let count = host::read_full(&mut rt.stdin(), &mut input);
+    try_lines(&rt, part(&input, count), &mut out);
     if count == 131072 {
-        io::write_all(libc::STDOUT_FILENO, b"INPUT TOO LONG\n");
+        host::write_all(&rt, b"INPUT TOO LONG\n");
     }
 }

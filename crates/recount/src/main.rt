@@ -1062,13 +1062,13 @@ fn try_streams(h: &mut List) {
 // ---- the report
 
 // A byte, or the count at a place for a mark.
-fn say_piece(h: &List, place: usize, byte: u8) {
+fn say_piece(rt: &impl Print, h: &List, place: usize, byte: u8) {
     if byte == b'#' {
-        io::print_decimal(libc::STDOUT_FILENO, at(h, place));
+        host::print_decimal(rt, at(h, place));
         return;
     }
     let one = [byte];
-    io::write_all(libc::STDOUT_FILENO, &one);
+    host::write_all(rt, &one);
 }
 
 // The place of the next count: each line has a row, and after the last place of a row comes its first.
@@ -1081,19 +1081,20 @@ fn next_count(place: usize, byte: u8) -> usize {
 }
 
 // The words, with the counts for their marks.
-fn say_all(h: &List, words: &[u8]) {
+fn say_all(rt: &impl Print, h: &List, words: &[u8]) {
     let mut place = COUNTS;
     let mut i: usize = 0;
     while i < words.len() {
         let byte = words[i];
-        say_piece(h, place, byte);
+        say_piece(rt, h, place, byte);
         place = next_count(place, byte);
         i += 1;
     }
 }
 
-fn report(h: &List) {
+fn report(rt: &impl Print, h: &List) {
     say_all(
+        rt,
         h,
         b"seed 1981; codes 0 to 9, and of 7 those through ended jobs; of orders and lists, codes 0 and 11 to 18
 few cells: # differ of # requests: # # # # # # # # # #, #; # histories, # publishes and # adds granted
@@ -1113,17 +1114,17 @@ recount: # differ
     );
 }
 
-fn try_all(text: &[u8]) {
+fn try_all(rt: &impl Print, text: &[u8]) {
     let mut h = [0u64; 4608];
     try_text(&mut h, text);
     try_streams(&mut h);
     let more = at(&h, STREAMS as usize);
     bump(&mut h, REST as usize, more);
-    report(&h);
+    report(rt, &h);
 }
 
-fn main() {
+fn main(rt: HostRuntime) {
     let mut space = [0u8; 131072];
-    let count = io::read_full(libc::STDIN_FILENO, &mut space);
-    try_all(&space[..count]);
+    let count = host::read_full(&mut rt.stdin(), &mut space);
+    try_all(&rt, &space[..count]);
 }

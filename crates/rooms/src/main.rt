@@ -7,6 +7,7 @@
 ghost use Rattle.std.specs.Prelude.{◌<◌};
 
 use arbiter::{JobNumber, State};
+use std::io::Read;
 
 // ---- the network, by value
 
@@ -133,9 +134,9 @@ struct Taken {
     bytes: [u8; 8],
 }
 
-fn take() -> Taken {
+fn take(input: &mut impl Read) -> Taken {
     let mut bytes = [0u8; 8];
-    let got = io::read_full(libc::STDIN_FILENO, &mut bytes[..]);
+    let got = host::read_full(input, &mut bytes[..]);
     Taken {
         got: got,
         bytes: bytes,
@@ -209,51 +210,51 @@ fn start() -> Run {
 }
 
 // All of standard input.
-fn all(counts: &mut Counts) {
+fn all(input: &mut impl Read, counts: &mut Counts) {
     let mut now = start();
     // No input outlives so many turns.
     let mut turns: u64 = 4611686018427387904;
     while turns > 0 {
-        let taken = take();
+        let taken = take(input);
         turns = turns_left(turns, taken.got);
         now = turn(now, taken, counts);
     }
 }
 
-fn say(words: &[u8]) {
-    io::write_all(libc::STDOUT_FILENO, words);
+fn say(rt: &impl Print, words: &[u8]) {
+    host::write_all(rt, words);
 }
 
-fn say_count(counts: &Counts, i: usize) {
-    say(b" ");
-    io::print_decimal(libc::STDOUT_FILENO, count(counts, i));
+fn say_count(rt: &impl Print, counts: &Counts, i: usize) {
+    say(rt, b" ");
+    host::print_decimal(rt, count(counts, i));
 }
 
-fn say_codes(counts: &Counts) {
-    say_count(counts, 0);
-    say_count(counts, 1);
-    say_count(counts, 2);
-    say_count(counts, 3);
-    say_count(counts, 4);
-    say_count(counts, 5);
-    say_count(counts, 6);
-    say_count(counts, 7);
-    say_count(counts, 8);
-    say_count(counts, 9);
+fn say_codes(rt: &impl Print, counts: &Counts) {
+    say_count(rt, counts, 0);
+    say_count(rt, counts, 1);
+    say_count(rt, counts, 2);
+    say_count(rt, counts, 3);
+    say_count(rt, counts, 4);
+    say_count(rt, counts, 5);
+    say_count(rt, counts, 6);
+    say_count(rt, counts, 7);
+    say_count(rt, counts, 8);
+    say_count(rt, counts, 9);
 }
 
-fn main() {
+fn main(rt: HostRuntime) {
     let mut counts = [0u64; 16];
-    all(&mut counts);
-    say(b"three rooms:");
-    say_count(&counts, REQUESTS);
-    say(b" requests; codes 0 to 9:");
-    say_codes(&counts);
-    say(b"; steps at stations 0 to 2:");
-    say_count(&counts, 10);
-    say_count(&counts, 11);
-    say_count(&counts, 12);
-    say(b"; differ:");
-    say_count(&counts, DIFFER);
-    say(b"\n");
+    all(&mut rt.stdin(), &mut counts);
+    say(&rt, b"three rooms:");
+    say_count(&rt, &counts, REQUESTS);
+    say(&rt, b" requests; codes 0 to 9:");
+    say_codes(&rt, &counts);
+    say(&rt, b"; steps at stations 0 to 2:");
+    say_count(&rt, &counts, 10);
+    say_count(&rt, &counts, 11);
+    say_count(&rt, &counts, 12);
+    say(&rt, b"; differ:");
+    say_count(&rt, &counts, DIFFER);
+    say(&rt, b"\n");
 }

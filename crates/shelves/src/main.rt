@@ -125,42 +125,42 @@ fn all(text: &[u8], counts: &mut Counts) {
 
 // ---- what is written
 
-fn say(words: &[u8]) {
-    io::write_all(libc::STDOUT_FILENO, words);
+fn say(rt: &impl Print, words: &[u8]) {
+    host::write_all(rt, words);
 }
 
-fn say_count(counts: &Counts, i: usize) {
-    io::print_decimal(libc::STDOUT_FILENO, counts[i % 16]);
+fn say_count(rt: &impl Print, counts: &Counts, i: usize) {
+    host::print_decimal(rt, counts[i % 16]);
 }
 
-fn say_next(counts: &Counts, i: usize) {
-    say(b" ");
-    say_count(counts, i);
+fn say_next(rt: &impl Print, counts: &Counts, i: usize) {
+    say(rt, b" ");
+    say_count(rt, counts, i);
 }
 
-fn say_codes(counts: &Counts) {
+fn say_codes(rt: &impl Print, counts: &Counts) {
     let mut code: usize = 0;
     while code < 10 {
-        say_next(counts, code);
+        say_next(rt, counts, code);
         code += 1;
     }
 }
 
-fn say_counts(counts: &Counts) {
-    say_count(counts, HISTORIES);
-    say(b" histories, codes 0 to 9:");
-    say_codes(counts);
-    say(b"\n");
-    say_count(counts, REQUESTS);
-    say(b" requests, ");
-    say_count(counts, DIFFER);
-    say(b" differ\n");
+fn say_counts(rt: &impl Print, counts: &Counts) {
+    say_count(rt, counts, HISTORIES);
+    say(rt, b" histories, codes 0 to 9:");
+    say_codes(rt, counts);
+    say(rt, b"\n");
+    say_count(rt, counts, REQUESTS);
+    say(rt, b" requests, ");
+    say_count(rt, counts, DIFFER);
+    say(rt, b" differ\n");
 }
 
-fn main() {
+fn main(rt: HostRuntime) {
     let mut space = [0u8; 131072];
     let mut counts = [0u64; 16];
-    let count = io::read_full(libc::STDIN_FILENO, &mut space);
+    let count = host::read_full(&mut rt.stdin(), &mut space);
     all(&space[..count], &mut counts);
-    say_counts(&counts);
+    say_counts(&rt, &counts);
 }

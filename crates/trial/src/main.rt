@@ -5,15 +5,14 @@
 ghost use Rattle.std.specs.Prelude.{◌≡◌, ◌+◌, ◌≤◌, length, take, drop};
 
 use arbiter::{JobNumber, State};
+use std::io::Read;
 
 // One read behind the bytes that wait: how many came, 0 at the end or where the read failed.
-fn read_behind(buf: &mut [u8], from: usize) -> usize
+fn read_behind(input: &mut impl Read, buf: &mut [u8], from: usize) -> usize
     requires { from ≤ length buf.old }
     ensures { from + result ≤ length buf.old }
 {
-    let part = &mut buf[from..];
-    let got = libc::read(0, part);
-    io::count(got, part)
+    host::read_some(input, &mut buf[from..])
 }
 
 // Copies count bytes to the start.
@@ -29,6 +28,8 @@ fn to_start(buf: &mut [u8], from: usize, count: usize)
 }
 
 fn run(
+    rt: &impl Print,
+    input: &mut impl Read,
     first: u64,
     slots: u32,
     numbers: &mut [u32; 32],
@@ -39,7 +40,7 @@ fn run(
     out: &mut [u8],
 ) {
     let n = lines::header(out);
-    if !io::write_all(1, &out[..n]) {
+    if !host::write_all(rt, &out[..n]) {
         return;
     }
     let mut next = first;
@@ -51,7 +52,7 @@ fn run(
     let mut more = true;
     while more && turns > 0 {
         turns -= 1;
-        let got = read_behind(buf, waiting);
+        let got = read_behind(input, buf, waiting);
         waiting += got;
         more = got > 0;
         if !more || 32768 <= waiting {
@@ -72,7 +73,7 @@ fn run(
                 return;
             }
             let bytes = done.bytes;
-            if !io::write_all(1, &out[..bytes]) {
+            if !host::write_all(rt, &out[..bytes]) {
                 return;
             }
             next = done.next;
@@ -83,18 +84,20 @@ fn run(
         }
     }
     let last = lines::tail(waiting as u64, out);
-    io::write_all(1, &out[..last]);
+    host::write_all(rt, &out[..last]);
 }
 
-fn main() {
+fn main(rt: HostRuntime) {
     let state = State::fresh(JobNumber(1));
     let mut numbers = state.numbers;
     let mut leads = state.leads;
     let mut sets = state.sets;
     let mut ports = state.ports;
-    let mut space = io::large_buffer();
+    let mut space = host::large_buffer();
     let mut room = [0u8; 360448];
     run(
+        &rt,
+        &mut rt.stdin(),
         state.next,
         state.free,
         &mut numbers,

@@ -13,13 +13,13 @@ use arbiter::{Answer, JobNumber, State, Stepped};
 
 // ---- what is written
 
-fn say(words: &[u8]) {
-    io::write_all(libc::STDOUT_FILENO, words);
+fn say(rt: &impl Print, words: &[u8]) {
+    host::write_all(rt, words);
 }
 
-fn say_count(count: u64, words: &[u8]) {
-    io::print_decimal(libc::STDOUT_FILENO, count);
-    say(words);
+fn say_count(rt: &impl Print, count: u64, words: &[u8]) {
+    host::print_decimal(rt, count);
+    say(rt, words);
 }
 
 // ---- what is read
@@ -776,16 +776,16 @@ fn line_of(line: &[u8], log: &mut [u8; 32784], before: Turn) -> Turn {
 }
 
 // A line that is not as expected: its number, the line, and the code and the number that came.
-fn show(line: &[u8], at: u64, code: u64, number: u64) {
-    say_count(at, b": ");
-    say(line);
-    say(b" IS NOT SO, found ");
-    say_count(code, b" ");
-    say_count(number, b"\n");
+fn show(rt: &impl Print, line: &[u8], at: u64, code: u64, number: u64) {
+    say_count(rt, at, b": ");
+    say(rt, line);
+    say(rt, b" IS NOT SO, found ");
+    say_count(rt, code, b" ");
+    say_count(rt, number, b"\n");
 }
 
 // One line. A comment and an empty line are passed over.
-fn go_on(before: Turn, log: &mut [u8; 32784], line: &[u8], number: u64) -> Turn {
+fn go_on(rt: &impl Print, before: Turn, log: &mut [u8; 32784], line: &[u8], number: u64) -> Turn {
     if line.len() == 0 {
         return before;
     }
@@ -794,7 +794,7 @@ fn go_on(before: Turn, log: &mut [u8; 32784], line: &[u8], number: u64) -> Turn 
     }
     let after = line_of(line, log, before);
     if after.differ != before.differ {
-        show(line, number, after.code, after.number);
+        show(rt, line, number, after.code, after.number);
     }
     after
 }
@@ -831,14 +831,14 @@ fn start() -> Turn {
 }
 
 // All lines of a text.
-fn all_lines(text: &[u8]) -> Turn {
+fn all_lines(rt: &impl Print, text: &[u8]) -> Turn {
     let mut log = [0u8; 32784];
     let mut done = start();
     let mut number: u64 = 1;
     let mut at: usize = 0;
     while at < text.len() {
         let end = line_end(text, at);
-        done = go_on(done, &mut log, &text[at..end], number);
+        done = go_on(rt, done, &mut log, &text[at..end], number);
         if end == text.len() {
             return done;
         }
@@ -849,30 +849,30 @@ fn all_lines(text: &[u8]) -> Turn {
 }
 
 // The counts, and whether the text may be cut.
-fn say_counts(done: Turn, cut: bool) {
+fn say_counts(rt: &impl Print, done: Turn, cut: bool) {
     if cut {
-        say(b"TEXT TOO LONG\n");
+        say(rt, b"TEXT TOO LONG\n");
     }
-    say_count(done.requests, b" requests, ");
-    say_count(done.states, b" states, ");
-    say_count(done.verdicts, b" verdicts, ");
-    say_count(done.differ, b" mismatches\n");
+    say_count(rt, done.requests, b" requests, ");
+    say_count(rt, done.states, b" states, ");
+    say_count(rt, done.verdicts, b" verdicts, ");
+    say_count(rt, done.differ, b" mismatches\n");
 }
 
 // ---- inputs that end in the middle of a record
 
-fn say_tail(count: u64) {
+fn say_tail(rt: &impl Print, count: u64) {
     let mut out = [0u8; 32];
     let bytes = lines::tail(count, &mut out);
-    say(&out[0..bytes]);
+    say(rt, &out[0..bytes]);
 }
 
 // The lines of an input of so many bytes, an open and what is left over: no line or one, and the tail line for what is no whole record.
-fn tail_of(count: usize)
+fn tail_of(rt: &impl Print, count: usize)
     requires { count ≤ 11 }
 {
-    io::print_decimal(libc::STDOUT_FILENO, count as u64);
-    say(b" bytes\n");
+    host::print_decimal(rt, count as u64);
+    say(rt, b" bytes\n");
     let bytes = [1u8, 0, 0, 0, 0, 0, 0, 0, 1, 0, 0];
     let mut numbers = [0u32; 32];
     let mut leads = [0u32; 32];
@@ -891,33 +891,36 @@ fn tail_of(count: usize)
         &mut out,
     );
     let written = w.bytes;
-    say(&out[0..written]);
-    say_tail((count % 8) as u64);
+    say(rt, &out[0..written]);
+    say_tail(rt, (count % 8) as u64);
 }
 
 // Inputs of 0 to 8 bytes and of 11. Expected by hand, in `stdout`.
-fn tails() {
-    say(b"\nlines of inputs that end in the middle of a record\n");
-    tail_of(0);
-    tail_of(1);
-    tail_of(2);
-    tail_of(3);
-    tail_of(4);
-    tail_of(5);
-    tail_of(6);
-    tail_of(7);
-    tail_of(8);
-    tail_of(11);
+fn tails(rt: &impl Print) {
+    say(
+        rt,
+        b"\nlines of inputs that end in the middle of a record\n",
+    );
+    tail_of(rt, 0);
+    tail_of(rt, 1);
+    tail_of(rt, 2);
+    tail_of(rt, 3);
+    tail_of(rt, 4);
+    tail_of(rt, 5);
+    tail_of(rt, 6);
+    tail_of(rt, 7);
+    tail_of(rt, 8);
+    tail_of(rt, 11);
 }
 
 // A text that fills the whole buffer may be longer.
-fn try_all(text: &[u8]) {
-    say_counts(all_lines(text), text.len() == 131072);
-    tails();
+fn try_all(rt: &impl Print, text: &[u8]) {
+    say_counts(rt, all_lines(rt, text), text.len() == 131072);
+    tails(rt);
 }
 
-fn main() {
+fn main(rt: HostRuntime) {
     let mut space = [0u8; 131072];
-    let count = io::read_full(libc::STDIN_FILENO, &mut space);
-    try_all(&space[..count]);
+    let count = host::read_full(&mut rt.stdin(), &mut space);
+    try_all(&rt, &space[..count]);
 }

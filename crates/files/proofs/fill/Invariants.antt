@@ -1,0 +1,10 @@
+-- `files::fill` ends, since each turn brings a byte at least. The loop's invariant: what came is within the buffer.
+-- Assumes nothing.
+use Rattle.std.proofs.Common.{length, ◌-◌, ◌≤◌}
+use Rattle.files.proofs.fill.Given as goal
+
+abbrev pub invariant-loop-done : goal.invariant-loop-done
+invariant-loop-done g l = l.done ≤ length l.buf
+
+abbrev pub decreases-loop-done : goal.decreases-loop-done
+decreases-loop-done g l = length l.initial.buf - l.done
