@@ -39,6 +39,7 @@ pub record Cells (ws : List ℕ) : Type 0 where
   pub fits : (i : ℕ) → get_or ws i 0 < 2 ^ 64
 
 fit_of : {n : ℕ} (ws : List ℕ) → ((i : ℕ) → get_or ws i 0 < n) → (w : ℕ) → w ∈ ws → w < n
+fit_of [] f w i = elim i [ ]
 fit_of {n} (x ∷ ws) f w (Memᴰ.head e) = subst (λ (v : ℕ). v < n) (sym e) (f zero)
 fit_of {n} (x ∷ ws) f w (Memᴰ.tail m) = fit_of ws (λ i. f (suc i)) w m
 
