@@ -1,1 +1,2 @@
 // Theory only: a log in blocks of 512 bytes, what the writer and the reader of blocks answer, and what is promised of them. In specs/.
+#![tactic(auto)]

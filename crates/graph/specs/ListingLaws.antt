@@ -214,4 +214,4 @@ module _ {E : ℕ → ℕ → Type 0} {e : ℕ → ℕ → Bool} (d : (p q : ℕ
       let s = forced_first l j o t in
       let h = forward_head f in
       let same : x ≡ j = s.1 x h.0 h.1 in
-      ap₂ ◌∷◌ same (forced_only s.2 (subst (λ (i : ℕ). Forward E (strike i l) r) same (forward_tail f)))
+      ap₂ ◌∷◌ same (forced_only {l = strike j l} {o = o} s.2 (subst (λ (i : ℕ). Forward E (strike i l) r) same (forward_tail f)))

@@ -209,6 +209,7 @@ module _ {X : Type 0} where
 
   -- in a list with every member once, nothing is before itself, and before is a one-way relation
   pub once_one_way : {a b : X} {l : List X} → Once l → Before a b l → Before b a l → ⊥
+  once_one_way none i s = elim i [ ]
   once_one_way (more f o) (first e m) s = ⊎_elim (λ r. f (Memᴰ.cast (sym r.0) m)) (λ r. f (Memᴰ.cast (sym e) (before_right r))) (before_cons s)
   once_one_way (more f o) (after r) s = ⊎_elim (λ q. f (Memᴰ.cast (sym q.0) (before_right r))) (once_one_way o r) (before_cons s)
 
@@ -216,6 +217,7 @@ module _ {X : Type 0} where
   once_irreflexive o r = once_one_way o r r
 
   pub once_transitive : {a b c : X} {l : List X} → Once l → Before a b l → Before b c l → Before a c l
+  once_transitive none i s = elim i [ ]
   once_transitive (more f o) (first e m) s = ⊎_elim (λ r. absurd (f (Memᴰ.cast (sym r.0) m))) (λ r. first e (before_right r)) (before_cons s)
   once_transitive (more f o) (after r) s = ⊎_elim (λ q. absurd (f (Memᴰ.cast (sym q.0) (before_right r)))) (λ q. after (once_transitive o r q)) (before_cons s)
 
@@ -255,6 +257,7 @@ only_strike l p q s h = only_same p (λ i. q i && not (eqb i s)) l h ∙ sym (on
 -- to strike out a member of a list that has every member once makes it shorter by one
 pub strike_once : {j : ℕ} {l : List ℕ} → Once l → j ∈ l → suc (length (strike j l)) ≡ length l
 unfolding strike
+strike_once none i = elim i [ ]
 strike_once {j} (more {x = x} {l = l} f o) (Memᴰ.head e) =
     let p : ℕ → Bool = λ i. not (eqb i j) in
     ap (λ (r : List ℕ). suc (length r))

@@ -4,7 +4,7 @@
 use Rattle.std.specs.Prelude.{◌≡◌, refl, List, [], ◌∷◌, ℕ, ◌≤◌, ◌<◌}
 use Rattle.std.proofs.Common.{sym, ap₂, ◌∙◌, subst}
 use Rattle.history.specs.Events.{History}
-use Rattle.history.specs.Replies.{port_count, most_of_port, Request, Reply, reply_of, Book, full, replies, history_from, book_from}
+use Rattle.history.specs.Replies.{port_count, most_of_port, Request, Reply, reply_of, Book, full, replies, history_from, book_from, book_after}
 use Rattle.history.specs.Memory.{Memory, fresh, Rule, right, held, held_after, held_replies}
 use Rattle.history_laws.specs.Exact.{agree_reply, Beside, agree, beside_start, beside_after, exact}
 use Rattle.history_laws.specs.PortLaws.{granted_ported}
@@ -20,7 +20,7 @@ memory_after u m (r ∷ rs) = memory_after u (held_after u m r) rs
 answers_from : {b : Book} {h : History} {st : Held} {m : Memory} → Beside b h m → Seen st m
     → (rs : List Request) → answers st rs ≡ held_replies right m rs
 answers_from t s [] = refl
-answers_from {st = st} {m = m} t s (r ∷ rs) = ap₂ (λ (x : Reply) (l : List Reply). x ∷ l) (same r) (answers_from (beside_after r t) (seen_after t s r) rs)
+answers_from {b} {h} {st = st} {m = m} t s (r ∷ rs) = ap₂ (λ (x : Reply) (l : List Reply). x ∷ l) (same r) (answers_from {b = book_after b h r} (beside_after r t) (seen_after t s r) rs)
   where
     same : (q : Request) → answer_to st q ≡ reply_of (held right m) q
     same q = unfold answer_to in agree_reply (seen_agree s) q
@@ -29,12 +29,12 @@ answers_from {st = st} {m = m} t s (r ∷ rs) = ap₂ (λ (x : Reply) (l : List 
 seen_from : {b : Book} {h : History} {st : Held} {m : Memory} → Beside b h m → Seen st m
     → (rs : List Request) → Seen (after_all st rs) (memory_after right m rs)
 seen_from t s [] = s
-seen_from t s (r ∷ rs) = seen_from (beside_after r t) (seen_after t s r) rs
+seen_from {b} {h} t s (r ∷ rs) = seen_from {b = book_after b h r} (beside_after r t) (seen_after t s r) rs
 
 -- and the memory beside the history
 beside_from : {b : Book} {h : History} {m : Memory} → Beside b h m → (rs : List Request) → Beside (book_from b h rs) (history_from b h rs) (memory_after right m rs)
 beside_from t [] = t
-beside_from t (r ∷ rs) = beside_from (beside_after r t) rs
+beside_from {b} {h} t (r ∷ rs) = beside_from {b = book_after b h r} (beside_after r t) rs
 
 -- the answers of the rows are the replies of the full history
 pub held_exact : (first : ℕ) (rs : List Request) → answers (fresh_held first) rs ≡ replies first rs

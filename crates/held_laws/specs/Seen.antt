@@ -215,7 +215,7 @@ module _ {st : Held} {m : Memory} (seen : Seen st m) where
     to_slots {p} {q} a b u v (one w) = one (subst T (sym (same p q a b ∙ ap₂ f u v)) w)
     to_slots {p} a b u v (step {m = n} w o r) =
         let d = seen.a_slot n o in
-        step (subst T (sym (same p d.0 a d.1 ∙ ap₂ f u d.2)) w) d.1 (to_slots d.1 b d.2 v r)
+        step (subst T (sym (same p d.0 a d.1 ∙ ap₂ f u d.2)) w) d.1 (to_slots {p = d.0} d.1 b d.2 v r)
 
     reach_same : (p q : ℕ) → p ∈ open_slots st → q ∈ open_slots st → reach e (open_slots st) p q ≡ reach f m.jobs (number_at st p) (number_at st q)
     reach_same p q a b =

@@ -176,7 +176,7 @@ told_next {b} {h} {m} e t p =
 pub told_all : {b : Book} {h : History} {m : Memory} (es : List Event) → Told b h m → ProperAfter b h es → Told b (h ++ es) (move_all right m es)
 told_all {b} {h} {m} [] t p = subst (λ (x : History). Told b x m) (sym (append-nil h)) t
 told_all {b} {h} {m} (e ∷ es) t p =
-    subst (λ (x : History). Told b x (move_all right (move right m e) es)) (append_assoc h (e ∷ []) es) (told_all es (told_next e t p.0) p.1)
+    subst (λ (x : History). Told b x (move_all right (move right m e) es)) (append_assoc h (e ∷ []) es) (told_all {h = h ++ e ∷ []} es (told_next e t p.0) p.1)
 
 -- a request keeps the two side by side
 pub beside_after : {b : Book} {h : History} {m : Memory} (r : Request) → Beside b h m → Beside (book_after b h r) (after b h r) (held_after right m r)
@@ -195,7 +195,7 @@ beside_after {b} {h} {m} r t =
 
 exact_from : {b : Book} {h : History} {m : Memory} → Beside b h m → (rs : List Request) → held_replies right m rs ≡ replies_from b h rs
 exact_from t [] = refl
-exact_from {b} {h} {m} t (r ∷ rs) = ap₂ (λ (x : Reply) (l : List Reply). x ∷ l) (same r) (exact_from (beside_after r t) rs)
+exact_from {b} {h} {m} t (r ∷ rs) = ap₂ (λ (x : Reply) (l : List Reply). x ∷ l) (same r) (exact_from {b = book_after b h r} (beside_after r t) rs)
   where
     same : (q : Request) → reply_of (held right m) q ≡ reply b h q
     same q = unfold reply in agree_reply (agree t) q

@@ -81,7 +81,7 @@ pub data Rearranged : List Step → List Step → Type 0 where
 -- ---- a layout is a rearrangement
 
 -- a list that has x is a list with x in the middle
-cut_at : {X : Type 0} (P : List X → Type 0) {x : X} {l : List X} → x ∈ l → ((p q : List X) → P (p ++ x ∷ q)) → P l
+cut_at : {X : Type 0} {x : X} (P : List X → Type 0) {l : List X} → x ∈ l → ((p q : List X) → P (p ++ x ∷ q)) → P l
 cut_at P (Memᴰ.head {x = y} {xs = l} e) f = subst (λ z. P (z ∷ l)) e (f [] l)
 cut_at P (Memᴰ.tail {x = y} m) f = cut_at (λ l. P (y ∷ l)) m (λ p q. f (y ∷ p) q)
 

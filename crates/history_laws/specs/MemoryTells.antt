@@ -61,7 +61,7 @@ tells_after : {h : History} {m : Memory} (es : List Event) → Orderly h → Tel
 tells_after {h} {m} [] o t turns = subst (λ (x : History). Tells x m) (sym (append-nil h)) t
 tells_after {h} {m} (e ∷ es) o t turns =
     subst (λ (x : History). Tells x (move_all right (move right m e) es)) (append_assoc h (e ∷ []) es)
-    (tells_after es (orderly_next e o turns.0) (tells_next o t e turns.0) turns.1)
+    (tells_after {h = h ++ e ∷ []} es (orderly_next e o turns.0) (tells_next o t e turns.0) turns.1)
 
 -- after every list of events in turn the tables are what the history says
 pub tables_tell : (first : ℕ) (h : History) → Turns h → Tells h (move_all right (fresh first) h)

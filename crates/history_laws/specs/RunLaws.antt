@@ -12,7 +12,7 @@ use Rattle.std.proofs.Math.Bool.{true, false, cond}
 use Rattle.std.proofs.Math.Option.{Option, none, some}
 use mathlib.Core.List.Memᴰ
 use Rattle.std.proofs.Math.Dec.{T, eqb, not_T}
-use Rattle.graph.specs.Decide.{Decides, eq_test, and_test, own_test, read_as, answer, is_true, is_false, true_is, false_is}
+use Rattle.graph.specs.Decide.{eq_test, and_test, own_test, answer, is_true, is_false, true_is, false_is}
 use Rattle.graph.specs.Lists.{◌∈◌, here, later, only, Once, once_head, once_tail}
 use Rattle.history.specs.Events.{Kind, read, write, add, Deed, does, opening, ending, alters_by, kinds_clash, clash, Step}
 use Rattle.history_laws.specs.EventLaws.{write_before, write_after, add_before, add_after}

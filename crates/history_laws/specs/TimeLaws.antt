@@ -78,7 +78,7 @@ ended_event (e ∷ h) {j} m = ⊎_elim (λ n. Memᴰ.head (is e n)) (λ n. later
     is (ends i) n = ap ends (Memᴰ.eq_of_singleton n)
     is (abandons i) n = absurd (Memᴰ.not-nil n)
 
-event_ended : {h : History} {j : ℕ} → ends j ∈ h → j ∈ gather ended_by h
+event_ended : {j : ℕ} {h : History} → ends j ∈ h → j ∈ gather ended_by h
 event_ended {j = j} (Memᴰ.head {xs = h} q) = Memᴰ.append_left (gather ended_by h) (subst (λ (x : Event). j ∈ ended_by x) q here)
 event_ended (Memᴰ.tail {x = e} m) = Memᴰ.append_right (ended_by e) (event_ended m)
 

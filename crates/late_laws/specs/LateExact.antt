@@ -252,7 +252,7 @@ beside_written {b} {h} {m} t j [] real n = subst (λ (x : History). Beside b x m
 beside_written {b} {h} {m} t j (c ∷ cs) real n =
     let e = steps write j c in
     subst (λ (x : History). Beside b x (move_all right (move right m e) (written j cs))) (append_assoc h (e ∷ []) (written j cs))
-    (beside_written (beside_step t write j c n (real c here)) j cs (λ x q. real x (later q)) (subst (λ (l : List ℕ). j ∈ l) (sym (open_steps h j write c)) n))
+    (beside_written {h = h ++ steps write j c ∷ []} (beside_step t write j c n (real c here)) j cs (λ x q. real x (later q)) (subst (λ (l : List ℕ). j ∈ l) (sym (open_steps h j write c)) n))
 
 move_append : (m : Memory) (k l : List Event) → move_all right m (k ++ l) ≡ move_all right (move_all right m k) l
 move_append m [] l = refl
@@ -288,7 +288,7 @@ seen_put : {st : Held} {m : Memory} → Seen st m → (s : ℕ) (cs : List ℕ) 
 unfolding number_at stepped_at move right
 seen_put s i [] real o = s
 seen_put {st} s i (c ∷ cs) real o =
-    seen_put (seen_step s write i c o (real c here)) i cs (λ x q. real x (later q)) (subst (λ (l : List ℕ). i ∈ l) (sym (slots_stepped st write i c)) o)
+    seen_put {st = stepped_at st write i c} (seen_step s write i c o (real c here)) i cs (λ x q. real x (later q)) (subst (λ (l : List ℕ). i ∈ l) (sym (slots_stepped st write i c)) o)
 
 module _ {b : Book} {h : History} {m : Memory} (t : Beside b h m) {st : Held} (seen : Seen st m) (cs : List ℕ) (real : Real cs) where
   -- a slot leads to itself then exactly when the publish closes a circle
@@ -472,11 +472,11 @@ standing_start first = record { memory = fresh first; beside = beside_start firs
 
 exact_from : {b : Book} {h : History} {st : Held} → Standing b h st → (l : List Ask) → late_answers st l ≡ late_replies_from b h l
 exact_from s [] = refl
-exact_from s (a ∷ l) = ap₂ (λ (x : Reply) (r : List Reply). x ∷ r) (reply_same s a) (exact_from (standing_next s a) l)
+exact_from {b} {h} s (a ∷ l) = ap₂ (λ (x : Reply) (r : List Reply). x ∷ r) (reply_same s a) (exact_from {b = late_book b h a} (standing_next s a) l)
 
 standing_from : {b : Book} {h : History} {st : Held} → Standing b h st → (l : List Ask) → Standing (late_book_from b h l) (late_history_from b h l) (late_state st l)
 standing_from s [] = s
-standing_from s (a ∷ l) = standing_from (standing_next s a) l
+standing_from {b} {h} s (a ∷ l) = standing_from {b = late_book b h a} (standing_next s a) l
 
 -- the answers of the rows are the replies of the full history
 pub exact : (first : ℕ) (l : List Ask) → late_answers (fresh_held first) l ≡ late_replies first l

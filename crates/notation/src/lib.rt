@@ -1,1 +1,2 @@
 // Theory only: logs in the report's notation, what import and export of such texts answer, and that they fit together. In specs/.
+#![tactic(auto)]

@@ -1,7 +1,7 @@
 -- What the table of jobs tells: that its numbers rise, which jobs it has, and how each stands.
 -- Assumes nothing.
 use Rattle.std.specs.Prelude.{◌≡◌, refl, ◌↔◌, ◌⊎◌, Bool, cond, List, [], ◌∷◌, ℕ, zero, suc, ◌≤◌, ◌<◌, T, length, get_or}
-use Rattle.std.proofs.Common.{sym, ap, ◌∙◌, inl, inr, arith}
+use Rattle.std.proofs.Common.{sym, ap, ◌∙◌, inl, inr, arith, ⊎_elim}
 use mathlib.Core.List.Memᴰ
 use Rattle.graph.specs.Decide.{Decides, own_test, lt_test, by_test, answer}
 use Rattle.graph.specs.Lists.{◌∈◌, here, later, Before, first, after}
@@ -18,8 +18,9 @@ at_member (x ∷ l) zero q = here
 at_member (x ∷ l) (suc i) q = later (at_member l i (omega arith))
 
 pub member_at : (l : List ℕ) (j : ℕ) → j ∈ l → (i : ℕ) × (i < length l) × (get_or l i 0 ≡ j)
-member_at _ j (Memᴰ.head e) = (0, omega arith, sym e)
-member_at _ j (Memᴰ.tail {xs = l} m) = let r = member_at l j m in let q = r.1 in (suc r.0, omega arith, r.2)
+member_at [] j m = absurd (Memᴰ.not-nil m)
+member_at (x ∷ l) j m =
+    ⊎_elim (λ e. (0, omega arith, sym e)) (λ n. let r = member_at l j n in let q = r.1 in (suc r.0, omega arith, r.2)) (Memᴰ.cases_cons m)
 
 before_at : (l : List ℕ) (i k : ℕ) → i < k → k < length l → Before (get_or l i 0) (get_or l k 0) l
 before_at [] i k p q = absurd (omega arith)

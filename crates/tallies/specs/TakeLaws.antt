@@ -144,7 +144,7 @@ byte_ill h k b c j f = of_form h (asked k b c j) (go (want k))
     either_way x = ap (λ (t : Bool). not t || x) (test_false (eq_test b 0) f)
 
     go : (w : Want) → ill_formed w (asked k b c j) ≡ true
-    go = unfold ill_formed in λ w. elim w [
+    go = unfold ill_formed in elim [
       | an_open ↦ either_way (not (eqb c 0))
       | a_step s ↦ either_way (leb cells c)
       | an_end ↦ either_way (not (eqb c 0))

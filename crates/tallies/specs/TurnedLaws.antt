@@ -9,7 +9,7 @@ use mathlib.Core.List.Memᴰ
 use Rattle.std.proofs.Math.Nat.{le-max_left, le-max_right}
 use Rattle.std.proofs.lemmas.List.{get_or-replicate}
 use Rattle.graph.specs.Decide.{Decides, and_test, or_test, eq_test, lt_test, read_as, same_test, some_of, some_test, every_test, by_test, answer, test_true, test_false, false_is}
-use Rattle.graph.specs.Lists.{◌∈◌, later, each, other, Before, first, after, Once, none, more, members, before_left, before_right}
+use Rattle.graph.specs.Lists.{◌∈◌, each, other, Before, first, after, Once, none, more, members, before_left, before_right}
 use Rattle.history.specs.Events.{Deed, clash, History, opened, kept, Step, kept_steps}
 use Rattle.history.specs.Memory.{same_deed}
 use Rattle.history_laws.specs.MemoryLaws.{deed_test}
@@ -51,6 +51,7 @@ place_named (x ∷ order) j m =
     (λ f. one_on_positive (place_in order j) (place_named order j (other (λ e. f (sym e)) (Memᴰ.cases_cons m))))
 
 pub before_place : {order : List ℕ} {i j : ℕ} → Once order → Before i j order → place_in order i < place_in order j
+before_place none i = elim i [ ]
 before_place {i = i} {j = j} (more {x = x} {l = l} n o) (first e m) =
     let p = place_first l x i (sym e) in
     let q = place_later l x j (λ y. n (Memᴰ.cast y m)) in

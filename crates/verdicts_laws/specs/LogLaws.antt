@@ -32,7 +32,7 @@ in_turn h r z =
     is_open k = (has_test (open_now h) r.job).holds (undenied (has (open_now h) r.job) k)
 
     go : (w : Want) → (T (ill_formed w r) → ⊥) → (T (out_of_turn h w r.job) → ⊥) → (e : Event) × (event_of r.job w r.job r.cell ≡ e ∷ []) × InTurn h e
-    go = unfold ill_formed out_of_turn event_of in λ w. elim w [
+    go = unfold ill_formed out_of_turn event_of in elim [
       | an_open ↦ λ i t. (opens r.job, refl, λ n m. (every_test (λ x. lt_test x r.job) (opened h)).holds (undenied (every_of (λ x. ltb x r.job) (opened h)) t) n m)
       | a_step k ↦ λ i t. (steps k r.job r.cell, refl, (is_open t, ⊎_elim (λ le. absurd (i ((or_test (not_test (eq_test r.byte1 0)) (le_test cells r.cell)).shows (inr le)))) (λ f. let g : (cells ≤ r.cell) → ⊥ = f in omega arith) (answer (le_test cells r.cell))))
       | an_end ↦ λ i t. (ends r.job, refl, is_open t)

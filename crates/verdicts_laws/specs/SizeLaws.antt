@@ -36,7 +36,7 @@ brings h r few z =
     record { one = ap length (in_turn h r z).1; room = go (want r.kind) (passed (too_many h (want r.kind)) 13 _ q.1).0 }
   where
     go : (w : Want) → (T (too_many h w) → ⊥) → length (opened h) + length (opened (event_of r.job w r.job r.cell)) ≤ most_jobs
-    go = unfold too_many event_of opened in λ w. elim w [
+    go = unfold too_many event_of opened in elim [
       | an_open ↦ λ f. let l = below_bound most_jobs (length (opened h)) f in omega arith
       | a_step k ↦ λ f. omega arith
       | an_end ↦ λ f. omega arith

@@ -6,13 +6,13 @@ use Rattle.std.specs.Prelude.{◌≡◌, ◌⊎◌, ◌↔◌, Bool, cond, drop}
 use Rattle.std.proofs.Math.Path.{refl, ap}
 use Rattle.std.proofs.Common.{sym, ◌∙◌, subst, subst₂, inl, inr, ⊎_elim, arith}
 use Rattle.std.proofs.Math.Bool.{not}
-use Rattle.std.proofs.Math.Option.{Option, none, some}
+use Rattle.std.proofs.Math.Option.{Option, some}
 use mathlib.Core.List.Memᴰ
 use mathlib.Core.List.{List, [], ◌∷◌, ◌++◌}
 use Prim.Native.Nat.{ℕ, zero, suc, ◌+◌, ◌≤◌, ◌<◌}
 use Rattle.std.proofs.Math.ListN.{length}
 use Rattle.graph.specs.Decide.{Decides, and_test, or_test, not_test, eq_test, lt_test, read_as, some_test, every_test, by_test, test_true, test_false, answer}
-use Rattle.graph.specs.Lists.{◌∈◌, here, later, each, Before, first, after, before_cons, before_nil, before_left, before_right, before_from_only, Once, none, more, once_head, once_tail, once_one_way, members, once_irreflexive, before_across, once_if, once_length}
+use Rattle.graph.specs.Lists.{◌∈◌, here, later, each, Before, first, after, before_cons, before_nil, before_left, before_right, before_from_only, Once, more, once_head, once_tail, once_one_way, members, once_irreflexive, before_across, once_if, once_length}
 use Rattle.history.specs.Events.{History, has, abandoned, kept, Step, all_steps, kept_steps, Conflict, Precedes, Circular, opened}
 use Rattle.history_laws.specs.EventLaws.{conflict_test, precedes_of}
 use Rattle.history.specs.Turns.{Turns}
