@@ -62,9 +62,9 @@ apply() { # CRATE EDIT
     [ "$pairs" -gt 0 ]
 }
 
-dev() { # CRATE LOG: the last line is left in `last`
-    (cd "$copy" && "$rt" dev "$1") >"$2" 2>&1
-    last=$(tail -n 1 "$2")
+check() { # CRATE LOG: the line of the verdict is left in `last`; `rt:` lines may follow it
+    (cd "$copy/crates/$1" && "$rt" check) >"$2" 2>&1
+    last=$(grep -a '^logic=' "$2" | tail -n 1)
 }
 
 # The place and the message of the first error, with what the two sides compute to where it is said. What is not admitted only because something before it
@@ -74,7 +74,7 @@ first() { # LOG
         found && /^  computed as far/ { sub(/^ */, ""); match(found, /: error: `[^`]*`: /); print substr(found, 1, RSTART + RLENGTH - 1) $0; found = ""; exit }
         found && !/^  / { exit }
         found { next }
-        /^[^ ]*: error: / && !/was not admitted/ { found = $0; next }
+        /^[^ ]*: error: / && !/was not admitted/ && !/: error: [0-9]+ declarations? that depends? on / { found = $0; next }
         /^note: [^ ]*:[0-9]+:[0-9]+: it is not proved/ { sub(/^note: /, ""); found = $0; exit }
         END { if (found) print found }' "$1" | sed "s|$copy/crates/||g"
 }
@@ -91,7 +91,7 @@ for one in "${all[@]}"; do
     *)
         (cd "$copy" && git checkout -q -- crates) || exit 2
         began=$SECONDS
-        dev "$crate" "$logs/$crate.log"
+        check "$crate" "$logs/$crate.log"
         case $last in 'logic=proved '*) ;; *) die "$crate is not proved as it stands: $last" ;; esac
         echo "$crate: proved as it stands ($((SECONDS - began)) s)"
         ready="$ready$crate "
@@ -102,7 +102,7 @@ for one in "${all[@]}"; do
         name=$crate/$(basename "$edit" .edit) log=$logs/$crate/$(basename "$edit" .edit).log
         if apply "$crate" "$edit"; then
             began=$SECONDS
-            dev "$crate" "$log"
+            check "$crate" "$log"
             took=$((SECONDS - began))
             case $last in
             logic=not-proved*)
@@ -113,7 +113,7 @@ for one in "${all[@]}"; do
                 esac
                 ;;
             'logic=proved '*) survived=$((survived + 1)) && echo "$name: SURVIVED ($took s)" ;;
-            *) bad=$((bad + 1)) && echo "$name: BAD: it does not get to the prover ($took s): $(grep -v -m 1 '^rt: ' "$log")" ;;
+            *) bad=$((bad + 1)) && echo "$name: BAD: it does not get to the prover ($took s): $(grep -m 1 'error' "$log")" ;;
             esac
         else
             bad=$((bad + 1))
@@ -124,7 +124,7 @@ for one in "${all[@]}"; do
 done
 # The files are as they were, so all is proved again: no mutant has left anything behind.
 for crate in $ready; do
-    dev "$crate" "$logs/$crate.log"
+    check "$crate" "$logs/$crate.log"
     case $last in 'logic=proved '*) ;; *) die "$crate is not proved after the run: $last" ;; esac
 done
 echo "$refused refused, $survived survived, $bad bad"
