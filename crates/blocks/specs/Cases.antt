@@ -5,7 +5,7 @@
 -- were worked out by hand or by a second program. The limits on the bytes of a log and of a run of blocks are too high to compute with: they are shown of any
 -- bytes (`log_above`, `run_above`).
 -- Assumes nothing.
-use Rattle.std.specs.Prelude.{◌≡◌, refl, ◌⊎◌, Bool, not, ◌||◌, cond, List, [], ◌∷◌, ◌++◌, map, ℕ, ◌/◌, ◌%◌, ◌<◌, ltb, eqb, length, set, replicate}
+use Rattle.std.specs.Prelude.{◌≡◌, refl, Bool, cond, List, [], ◌∷◌, ◌++◌, map, ℕ, ◌/◌, ◌%◌, ◌<◌, length, set, replicate}
 use Rattle.std.proofs.Common.{ap, inr}
 use Rattle.std.proofs.Math.Option.{Option, none, some}
 use Rattle.graph.specs.Decide.{or_test, not_test, eq_test, lt_test, test_true}

@@ -3,11 +3,11 @@
 -- Assumes nothing.
 use Rattle.std.proofs.Math.Path.{◌≡◌, ap}
 use Rattle.std.specs.Prelude.{refl, ◌⊎◌, Bool, not, ◌||◌, ℕ, zero, suc, ◌+◌, ◌-◌, ◌*◌, ◌/◌, ◌%◌, ◌≤◌, ◌<◌, min, ltb, eqb, take, drop}
-use Rattle.std.proofs.Common.{sym, ap₂, subst, ◌∙◌, ⊎_elim, lt-ltb, le-ltb, length-append, length-take, length-drop, take_at, drop_at, take-add}
+use Rattle.std.proofs.Common.{sym, ap₂, subst, ◌∙◌, ⊎_elim, lt-ltb, le-ltb, length-append, length-take, length-drop, drop_at, take-add}
 use Rattle.std.proofs.Math.Logic.{inl, inr}
 use Rattle.std.proofs.Math.Bool.{true, false, cond}
 use Rattle.std.proofs.Math.Option.{Option, none, some}
-use mathlib.Core.List.{List, [], ◌∷◌, ◌++◌}
+use mathlib.Core.List.{List, ◌++◌}
 use native.Mathlib.Omega.{arith}
 use Rattle.std.proofs.Math.ListN.{length}
 use Rattle.std.proofs.Math.Seq.{take_all}

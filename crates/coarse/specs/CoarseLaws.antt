@@ -16,7 +16,7 @@ use Rattle.graph.specs.Decide.{not_test, is_false, eq_test, test_true, by_test, 
 use Rattle.graph.specs.Lists.{◌∈◌, Before, before_left, before_right}
 use Rattle.graph.specs.Listing.{Forward}
 use Rattle.graph.specs.ListingLaws.{lowest_forward, lowest_first_some, lowest_first_exists}
-use Rattle.history.specs.Events.{Kind, write, Event, opens, steps, ends, abandons, History, has, opened, abandoned, kept, open_now, alters_by, Step, all_steps, kept_steps, Precedes, Circular, has_circle}
+use Rattle.history.specs.Events.{Kind, write, Event, opens, steps, ends, abandons, History, has, abandoned, kept, open_now, alters_by, Step, all_steps, kept_steps, Precedes, Circular, has_circle}
 use Rattle.history.specs.Replies.{cells, most_open, numbers, port_count, most_of_port, Request, Reply, Want, an_open, a_step, an_end, an_abandon, a_publish, nothing, want, Facts, first_of, step_tests, tests, code_of, event_of, reply_of, granted_of, Book, blank_book, full, reply, after, replies_from, history_from, book_from, replies, history_of, book_of}
 use Rattle.history_laws.specs.ReplyLaws.{reply_for}
 use Rattle.history.specs.Turns.{InTurn, InTurnAfter, Turns}

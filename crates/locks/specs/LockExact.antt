@@ -196,7 +196,7 @@ standing_start first = record { memory = fresh first; beside = beside_start firs
 
 exact_from : {b : Book} {h : History} {st : Held} → Standing b h st → (rs : List Request) → lock_answers st rs ≡ lock_replies_from b h rs
 exact_from s [] = refl
-exact_from s (r ∷ rs) = ap₂ (λ (x : Reply) (l : List Reply). x ∷ l) (reply_same s r) (exact_from (standing_next s r) rs)
+exact_from {b} {h} s (r ∷ rs) = ap₂ (λ (x : Reply) (l : List Reply). x ∷ l) (reply_same s r) (exact_from {b = lock_book_after b h r} (standing_next s r) rs)
 
 -- the answers of the rows are the replies of the full history
 pub exact : (first : ℕ) (rs : List Request) → lock_answers (fresh_held first) rs ≡ lock_replies first rs

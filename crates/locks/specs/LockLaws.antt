@@ -10,7 +10,7 @@ use mathlib.Core.List.Memᴰ
 use Rattle.graph.specs.Decide.{Decides, and_test, not_test, eq_test, own_test, some_test, read_as, answer}
 use Rattle.graph.specs.Lists.{◌∈◌, here, Before, before_nil, before_left, before_right, before_from_only}
 use Rattle.graph.specs.Walk.{Via, one, step, Any}
-use Rattle.history.specs.Events.{Kind, read, write, add, kinds_clash, Deed, does, opening, ending, clash, Event, opens, steps, ends, abandons, History, has, ended_by, ended, abandoned, open_now, Step, step_at, step_by, all_steps, kept_steps, Conflict, Precedes, Circular}
+use Rattle.history.specs.Events.{Kind, read, write, add, kinds_clash, Deed, does, opening, ending, clash, Event, opens, steps, ends, abandons, History, ended_by, ended, abandoned, open_now, Step, step_at, step_by, all_steps, kept_steps, Conflict, Precedes, Circular}
 use Rattle.history_laws.specs.EventLaws.{ending_calm}
 use Rattle.history.specs.Turns.{InTurn, InTurnAfter}
 use Rattle.history_laws.specs.TurnLaws.{ended_grows, abandoned_grows, all_steps_grows, old_in, new_in, which_in, which_before, has_test, kept_if, open_from, open_if, kept_steps_from, Orderly, step_single, orderly_start, orderly_next}

@@ -324,7 +324,7 @@ module _ {b : Book} {h : History} (s : Run b h) (r : Request) where
 
 run_from : {b : Book} {h : History} → Run b h → (rs : List Request) → Run (lock_book_from b h rs) (lock_history_from b h rs)
 run_from s [] = s
-run_from s (r ∷ rs) = run_from (run_next s r) rs
+run_from {b} {h} s (r ∷ rs) = run_from {b = lock_book_after b h r} (run_next s r) rs
 
 book_first : (b : Book) (h : History) (rs : List Request) → (lock_book_from b h rs).first ≡ b.first
 book_first b h [] = refl

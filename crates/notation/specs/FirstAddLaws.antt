@@ -1,6 +1,6 @@
 -- Where the first add of a history stands. The count of the events before it is its place, and that of all events where there is none (`found`), and only so (`first_is`, `none_is`).
 -- Assumes nothing.
-use Rattle.std.specs.Prelude.{◌≡◌, Bool, true, false, cond, List, [], ◌∷◌, ◌++◌, ℕ, suc, ◌+◌, ◌<◌}
+use Rattle.std.specs.Prelude.{◌≡◌, Bool, true, false, cond, [], ◌∷◌, ◌++◌, ℕ, suc, ◌+◌, ◌<◌}
 use Rattle.std.proofs.Math.Path.{refl, ap}
 use Rattle.std.proofs.Common.{sym, subst, ◌∙◌, ⊎_elim}
 use mathlib.Core.List.Memᴰ

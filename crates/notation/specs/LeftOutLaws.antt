@@ -100,7 +100,7 @@ turns_left q g (e ∷ es) f t = go (q (job_in e)) refl (turns_left q (g ++ e ∷
 
 -- ---- without the abandoned jobs
 
-abandons_in : {h : History} {j : ℕ} → abandons j ∈ h → j ∈ gather abandoned_by h
+abandons_in : {j : ℕ} {h : History} → abandons j ∈ h → j ∈ gather abandoned_by h
 abandons_in {j = j} (Memᴰ.head {xs = h} e) = Memᴰ.append_left (gather abandoned_by h) (subst (λ (x : Event). j ∈ abandoned_by x) e here)
 abandons_in (Memᴰ.tail {x = x} m) = Memᴰ.append_right (abandoned_by x) (abandons_in m)
 

@@ -520,7 +520,7 @@ text_read {u} {g} s r e [] f =
 text_read {u} {g} s r e (d ∷ h) f =
     let y = symbol_read s r e (f e here) in
     ap parse (sym (append_assoc (u ++ symbol e) (32 ∷ []) (text_of (d ∷ h)) ∙ append_assoc u (symbol e) (32 ∷ text_of (d ∷ h))))
-    ∙ text_read at_blank (reached_whole y.reached y.whole) d h (λ i m. f i (later m))
+    ∙ text_read {u = u ++ symbol e ++ 32 ∷ []} at_blank (reached_whole y.reached y.whole) d h (λ i m. f i (later m))
     ∙ ap says (append_assoc g (e ∷ []) (d ∷ h))
 
 parse_text : (h : History) → ((f : Event) → f ∈ h → Sayable f) → parse (text_of h) ≡ says h

@@ -1,6 +1,6 @@
 -- What the answers of import and of export come to (`import_right`, `export_right`), when 26, 11 and 27 are given, that each undoes the other (`imported_back`, `exported_back`), and how long a text is.
 -- Assumes nothing.
-use Rattle.std.specs.Prelude.{◌≡◌, refl, Bool, cond, List, [], ◌∷◌, ◌++◌, ℕ, suc, ◌+◌, ◌*◌, ◌/◌, ◌≤◌, ◌<◌, length, drop}
+use Rattle.std.specs.Prelude.{◌≡◌, refl, Bool, cond, List, [], ◌∷◌, ◌++◌, ℕ, suc, ◌*◌, ◌/◌, ◌≤◌, ◌<◌, length, drop}
 use Rattle.std.proofs.Common.{sym, subst, ◌∙◌, ⊎_elim, zero-le, arith, length-append}
 use Rattle.std.proofs.Math.Path.{ap}
 use Rattle.std.proofs.Math.Seq.{take-append_seam}
@@ -19,7 +19,7 @@ use Rattle.notation.specs.Notation.{on_cell, symbol, text_of, Says, Form, Wrong,
 use Rattle.notation.specs.Parse.{Parsed, wrong, says, parse, parse_end}
 use Rattle.notation.specs.Answers.{imported, import_of, import, before_adds, exported, export_of, export, written, Bytes, Imported, Exported}
 use Rattle.notation.specs.ParseLaws.{Read, said, gone_wrong, parse_right, parse_says, wrong_exactly, wrong_not_form, form_or_wrong}
-use Rattle.notation.specs.FirstAddLaws.{Found, none, first, found, is_there, first_is, none_is}
+use Rattle.notation.specs.FirstAddLaws.{Found, none, first, found, first_is, none_is}
 use Rattle.notation.specs.LeftOutLaws.{left_turns, left_sized, Plain, plain_sayable, left_from, left_plain, whole_left}
 use Rattle.notation.specs.ReadLaws.{read_sized, read_same}
 

@@ -17,7 +17,7 @@ use Rattle.graph.specs.Lists.{◌∈◌, only}
 use Rattle.graph.specs.Reach.{reach}
 use Rattle.history.specs.Events.{Kind, read, write, Deed, does, opening, ending, History, has, Step, all_steps}
 use Rattle.history.specs.Replies.{Request, Reply, a_step, want, replies, history_of}
-use Rattle.history.specs.Memory.{Footprint, Memory, fresh, meets, step_in, open_in, blank, fold, Rule, move_all, held, held_replies}
+use Rattle.history.specs.Memory.{Footprint, Memory, fresh, meets, step_in, open_in, blank, fold, Rule, held_replies}
 use Rattle.history.specs.Arbiters.{Arbiter, answers, left, Exact}
 use Rattle.history.specs.Cases.{open_at, open_one, reads, writes, granted, refused, Case, requests_of, replies_of, Outcome, expected, computed, p1, p2, p3, p4, p5, p6, p7, p8, p_table, past_of_ended, leads_of_ended, chain_abandoned, rows}
 

@@ -1,5 +1,7 @@
 // Text and numbers put into lent buffers. Each function answers the place past what it put; where there is no room nothing is written, and the place
 // that it was given is answered.
+#![tactic(auto)]
+
 ghost use Rattle.std.specs.Prelude.{◌≡◌, ◌≤◌, ◌<◌, length};
 ghost use Rattle.text.specs.Decimal.{decimal};
 ghost use Rattle.text.specs.Lays.{Lays};
