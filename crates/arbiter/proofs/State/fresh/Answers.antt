@@ -1,0 +1,7 @@
+-- `arbiter::State::fresh` meets its contract. Assumes nothing.
+use borrow.Author.Rules.{rules}
+use Rattle.arbiter.proofs.ReplayLaws.{fresh_law}
+use Rattle.arbiter.proofs.State.fresh.Goals as goal
+
+pub returns : goal.returns
+returns c = fresh_law c.args.first.0

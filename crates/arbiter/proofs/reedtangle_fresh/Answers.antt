@@ -1,0 +1,6 @@
+-- `arbiter::reedtangle_fresh` meets its contract. Assumes nothing.
+use Rattle.arbiter.proofs.ReplayLaws.{fresh_law}
+use Rattle.arbiter.proofs.reedtangle_fresh.Goals as goal
+
+pub returns : goal.returns
+returns c = fresh_law c.args.first

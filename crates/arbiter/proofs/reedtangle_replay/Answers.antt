@@ -1,0 +1,9 @@
+-- `arbiter::reedtangle_replay` meets its contract, by that of `replay`. Assumes nothing.
+use mathlib.Core.Path.{◌∙◌}
+use borrow.Author.Rules.{rules}
+use Rattle.arbiter.proofs.ReplayLaws.{told_whole}
+use Rattle.arbiter.proofs.reedtangle_replay.Goals as goal
+
+pub returns : goal.returns
+returns c =
+    told_whole c.replay-r.result c.code.ensures c.place.ensures ∙ c.replay-r.ensures

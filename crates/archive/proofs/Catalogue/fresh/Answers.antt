@@ -1,0 +1,7 @@
+-- `archive::Catalogue::fresh` meets its contract. Assumes nothing.
+use borrow.Author.Rules.{rules}
+use Rattle.archive.proofs.ArchiveLaws.{fresh_law}
+use Rattle.archive.proofs.Catalogue.fresh.Goals as goal
+
+pub returns : goal.returns
+returns c = fresh_law c.args.first.0

@@ -1,0 +1,7 @@
+-- `archive::reedtangle_coarse_step` meets its contract, by that of `coarse_in_place`. Assumes nothing.
+use borrow.Author.Rules.{rules}
+use Rattle.archive.proofs.ArchiveLaws.{in_one}
+use Rattle.archive.proofs.reedtangle_coarse_step.Goals as goal
+
+pub returns : goal.returns
+returns c = (in_one c.coarse_in_place-m.ensures.0 c.code.ensures c.job.ensures, c.coarse_in_place-m.ensures.1)
