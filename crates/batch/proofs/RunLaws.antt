@@ -9,7 +9,7 @@ use mathlib.Core.Logic.{◌⊎◌, inl, inr, ⊎_elim}
 use mathlib.Core.Bool.{Bool, true, false, not, cond}
 use mathlib.Core.Option.{Option, none, some}
 use mathlib.Core.List.{List, [], ◌∷◌}
-use Prim.Native.Nat.{ℕ, zero, suc, ◌+◌, ◌*◌, ◌/◌, ◌%◌, ◌≤◌, ◌<◌}
+use Prim.Native.Nat.{ℕ, suc, ◌+◌, ◌*◌, ◌/◌, ◌%◌, ◌≤◌, ◌<◌}
 use native.Mathlib.Nat.{add-zero}
 use native.Mathlib.Numerals.{add-one}
 use native.Mathlib.Omega.{arith}
@@ -21,11 +21,11 @@ use Rattle.graph.specs.Decide.{eq_test, answer, test_false}
 use Rattle.history.specs.Events.{Kind, read, write, add}
 use Rattle.history.specs.Formats.{records, request_of}
 use Rattle.history.specs.Replies.{cells, Request, Reply, Want, a_step, want, Facts, tests, ◌gives◌, first_of, code_of, job_of, reply_of}
-use Rattle.held.specs.Held.{Held, number_at, leads_at, word_at, open_at, open_slots, cell_at, is_some, at_slot, slot_of, touched, chain_back, stepped_at, facts, with_slot, moved, answer_to, after, answers, after_all}
+use Rattle.held.specs.Held.{Held, number_at, leads_at, word_at, open_at, open_slots, cell_at, is_some, at_slot, slot_of, touched, chain_back, stepped_at, facts, with_slot, moved, answer_to, after, after_all}
 use Rattle.history_laws.specs.RecordLaws.{record_there, record_none, drop_record, drop_none}
 use Rattle.slots.specs.Lent.{lent, numbered, Steps}
 use Rattle.slots.specs.declared.Moved.{Moved}
-use Rattle.batch.specs.Batch.{Verdict, verdict, taken, item_code, codes, first_refused, ill_sized, judged, batch, batch_leaves, packed}
+use Rattle.batch.specs.Batch.{Verdict, verdict, taken, item_code, judged, batch, batch_leaves, packed}
 use Rattle.batch.specs.Laws.{Taken, taken_test, gets, IllSized, ill_test, ill_judged, judged_small}
 use Rattle.batch.specs.Leaves.{Refused, Takes, Runs, Batches}
 use Rattle.batch.specs.Leaves as leaves

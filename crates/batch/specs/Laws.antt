@@ -1,9 +1,9 @@
 -- What holds of batches: what each verdict means (`batch_right`), when it is a grant (`grants_exactly`) and what is left then, that a place is small, and that a batch from a
 -- state that requests gave gets what the full history gives it (`exactly`).
 -- Assumes nothing.
-use Rattle.std.specs.Prelude.{◌≡◌, refl, ◌⊎◌, ◌↔◌, Bool, not, ◌||◌, ℕ, suc, ◌+◌, ◌*◌, ◌/◌, ◌%◌, ◌≤◌, ◌<◌, ltb, length, drop}
+use Rattle.std.specs.Prelude.{◌≡◌, refl, ◌⊎◌, ◌↔◌, Bool, ℕ, suc, ◌+◌, ◌*◌, ◌/◌, ◌%◌, ◌≤◌, ◌<◌, length, drop}
 use Rattle.std.proofs.Math.Path.{sym, ap}
-use Rattle.std.proofs.Common.{ap₂, ◌∙◌, subst, inl, inr, ⊎_elim, add-zero, arith, drop_at}
+use Rattle.std.proofs.Common.{ap₂, ◌∙◌, subst, inr, add-zero, arith, drop_at}
 use Rattle.std.proofs.Math.Bool.{true, false, cond}
 use mathlib.Core.List.{List, [], ◌∷◌, ◌++◌, append-nil}
 use Rattle.std.proofs.Math.Dec.{eqb}

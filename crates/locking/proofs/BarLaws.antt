@@ -1,16 +1,16 @@
 -- What the proofs of locking need beyond the contracts of the functions that they call.
 -- Assumes nothing.
-use mathlib.Core.Path.{◌≡◌, refl, sym, ap, ap₂, ◌∙◌, subst}
+use mathlib.Core.Path.{◌≡◌, refl, sym, ap, ap₂, ◌∙◌}
 use mathlib.Core.Bool.{Bool, true, false, not, ◌&&◌, ◌||◌, cond, and-false, or-false}
 use mathlib.Core.List.{List, [], ◌∷◌}
 use Prim.Native.Nat.{ℕ, ◌+◌, ◌*◌, ◌/◌, ◌%◌, ◌^◌, ◌<◌}
 use native.Mathlib.Nat.{zero-add}
-use lib.Bits.{bit_or, bit_and}
-use lib.Dec.{T, eqb}
+use lib.Bits.{bit_and}
+use lib.Dec.{eqb}
 use lib.ListN.{get_or}
 use borrow.Author.Tests.{eq-eqb, ne_eqb}
 use Rattle.graph.specs.Decide.{some_of, own_test, some_test, some_same, test_true, test_false, true_is, false_is}
-use Rattle.graph.specs.Lists.{◌∈◌, only}
+use Rattle.graph.specs.Lists.{only}
 use Rattle.marks.specs.Marks.{bit, upto}
 use Rattle.marks.specs.MarkLaws.{bit-or, shl_one, test_mark, upto_has, upto_from}
 use Rattle.held.specs.Held.{Held, as_used, as_altered, own_at, cell_at, word_at, open_at, open_slots}

@@ -3,7 +3,7 @@
 -- Assumes nothing.
 use mathlib.Core.Path.{◌≡◌, refl, sym, ap, ap₂, ◌∙◌}
 use mathlib.Core.Bool.{Bool, true, false, not, ◌&&◌, cond, and-false}
-use mathlib.Core.Option.{Option, none, some}
+use mathlib.Core.Option.{Option, none}
 use mathlib.Core.List.{List, []}
 use Prim.Native.Nat.{ℕ, ◌+◌, ◌*◌, ◌%◌, ◌≤◌, ◌<◌}
 use native.Mathlib.Nat.{mod-eq_of_lt}
@@ -12,10 +12,10 @@ use lib.ListN.{get_or}
 use borrow.Author.Tests.{le-leb, lt-leb, eq-eqb, ne_eqb}
 use Rattle.history.specs.Events.{Kind, read, write, add, alters}
 use Rattle.history.specs.Formats.{request_of}
-use Rattle.history.specs.Replies.{Request, Reply, Want, an_open, a_step, an_end, an_abandon, a_publish, nothing, want}
+use Rattle.history.specs.Replies.{Request, Want, an_open, a_step, an_end, an_abandon, a_publish, nothing, want}
 use Rattle.held.specs.Held.{Held, at_slot, open_at, open_slots, number_at, word_at, cell_at, slot_of, after, answer_to}
 use Rattle.rows.specs.Rows.{rows_of}
-use Rattle.slots.specs.Lent.{lent, numbered, Steps}
+use Rattle.slots.specs.Lent.{lent, Steps}
 use Rattle.slots.specs.declared.Moved.{Moved}
 use Rattle.slots.proofs.RequestLaws.{Found}
 use Rattle.locks.specs.Locks.{of_step}

@@ -1,5 +1,4 @@
 -- `arbiter::in_one` meets its contract. Assumes nothing.
-use borrow.Author.Rules.{rules}
 use Rattle.arbiter.proofs.ReplayLaws.{in_one}
 use Rattle.arbiter.proofs.in_one.Goals as goal
 

@@ -2,7 +2,6 @@
 use Prim.Native.Nat.{◌/◌, ◌%◌}
 use native.Mathlib.Omega.{arith}
 use lib.ListN.{length-set}
-use borrow.Author.Rules.{rules}
 use Rattle.arbiter.proofs.ReplayLaws.{four_in}
 use Rattle.arbiter.proofs.put_number.Goals as goal
 

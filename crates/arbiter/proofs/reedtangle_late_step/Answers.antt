@@ -1,5 +1,4 @@
 -- `arbiter::reedtangle_late_step` meets its contract, by that of `late_in_place`. Assumes nothing.
-use borrow.Author.Rules.{rules}
 use Rattle.arbiter.proofs.ReplayLaws.{packs_late}
 use Rattle.arbiter.proofs.reedtangle_late_step.Goals as goal
 

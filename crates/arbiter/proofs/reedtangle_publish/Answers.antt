@@ -1,5 +1,4 @@
 -- `arbiter::reedtangle_publish` meets its contract, by that of `publish_in_place`. Assumes nothing.
-use borrow.Author.Rules.{rules}
 use Rattle.arbiter.proofs.ReplayLaws.{packs_late}
 use Rattle.arbiter.proofs.reedtangle_publish.Goals as goal
 

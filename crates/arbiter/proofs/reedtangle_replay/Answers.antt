@@ -1,6 +1,5 @@
 -- `arbiter::reedtangle_replay` meets its contract, by that of `replay`. Assumes nothing.
 use mathlib.Core.Path.{◌∙◌}
-use borrow.Author.Rules.{rules}
 use Rattle.arbiter.proofs.ReplayLaws.{told_whole}
 use Rattle.arbiter.proofs.reedtangle_replay.Goals as goal
 

@@ -1,10 +1,9 @@
-use mathlib.Core.Path.{◌≡◌, refl}
-use Prim.Native.Nat.{◌+◌, ◌-◌, ◌*◌, ◌≤◌}
+use mathlib.Core.Path.{refl}
+use Prim.Native.Nat.{◌+◌, ◌*◌, ◌≤◌}
 use native.Mathlib.Omega.{arith}
 use lib.ListN.{length}
 use borrow.Author.Rules.{rules}
-use Rattle.slots.specs.Lent.{lent}
-use Rattle.arbiter.proofs.ReplayLaws.{Replaying, replay_start, replay_fits, replay_turn, replay_end, replay_short}
+use Rattle.arbiter.proofs.ReplayLaws.{replay_start, replay_fits, replay_turn, replay_end, replay_short}
 use Rattle.arbiter.proofs.reedtangle_replay_by_value.Goals as goal
 
 pub returns-then-answers-whole : goal.returns-then-answers-whole
@@ -29,7 +28,7 @@ overflow_add-i-in-loop-i c =
 
 pub loop-i-preserved : goal.loop-i-preserved
 loop-i-preserved c =
-    replay_turn c.loop-i.invariant {c.step-stepped.result = record { next = c.step-stepped.result.state.next; free = c.step-stepped.result.state.free; answer = c.step-stepped.result.answer }} c.if-answers-whole.false c.loop-i-test.true c.request_at.ensures
+    replay_turn c.loop-i.invariant {r = record { next = c.step-stepped.result.state.next; free = c.step-stepped.result.state.free; answer = c.step-stepped.result.answer }} c.if-answers-whole.false c.loop-i-test.true c.request_at.ensures
     (record { answered = c.step-stepped.ensures.0; left = c.step-stepped.ensures.1 })
     c.code.ensures c.job.ensures c.put_number.ensures c.put_number-in-loop-i.ensures
 

@@ -1,5 +1,4 @@
 -- `arbiter::reedtangle_step` meets its contract, by that of `step_in_place`. Assumes nothing.
-use borrow.Author.Rules.{rules}
 use Rattle.arbiter.proofs.ReplayLaws.{packs}
 use Rattle.arbiter.proofs.reedtangle_step.Goals as goal
 

@@ -1,10 +1,9 @@
 use mathlib.Core.Path.{refl}
-use Prim.Native.Nat.{◌+◌, ◌-◌, ◌*◌, ◌≤◌}
+use Prim.Native.Nat.{◌+◌, ◌*◌, ◌≤◌}
 use native.Mathlib.Omega.{arith}
 use lib.ListN.{length}
 use borrow.Author.Rules.{rules}
-use Rattle.slots.specs.Lent.{lent}
-use Rattle.arbiter.proofs.ReplayLaws.{fresh_law, Replaying, replay_start, replay_fits, replay_turn, replay_end, replay_short}
+use Rattle.arbiter.proofs.ReplayLaws.{fresh_law, replay_start, replay_fits, replay_turn, replay_end, replay_short}
 use Rattle.arbiter.proofs.replay.Goals as goal
 
 pub returns-then-answers-count : goal.returns-then-answers-count

@@ -1,9 +1,7 @@
 -- `arbiter::replay` meets its contract. The loop's invariant: so many records are answered (`Replaying`). The measure is the records left. Assumes nothing.
-use mathlib.Core.Path.{refl}
-use Prim.Native.Nat.{◌+◌, ◌-◌, ◌*◌, ◌≤◌}
-use lib.ListN.{length}
+use Prim.Native.Nat.{◌-◌}
 use Rattle.slots.specs.Lent.{lent}
-use Rattle.arbiter.proofs.ReplayLaws.{fresh_law, Replaying, replay_start, replay_fits, replay_turn, replay_end, replay_short}
+use Rattle.arbiter.proofs.ReplayLaws.{Replaying}
 use Rattle.arbiter.proofs.replay.Given as goal
 
 abbrev pub invariant-loop-i : goal.invariant-loop-i

@@ -1,5 +1,4 @@
 -- `arbiter::request_at` meets its contract: the bytes, one by one, are that part of the list, which is long enough. Assumes nothing.
-use borrow.Author.Rules.{rules}
 use Rattle.history_laws.specs.RecordLaws.{eight_out}
 use Rattle.arbiter.proofs.request_at.Goals as goal
 

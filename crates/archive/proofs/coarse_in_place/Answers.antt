@@ -1,5 +1,4 @@
 -- `archive::coarse_in_place` meets its contract, by that of `step_in_place` on the request by groups. Assumes nothing.
-use borrow.Author.Rules.{rules}
 use Rattle.history.specs.Formats.{request_of}
 use Rattle.archive.proofs.ArchiveLaws.{coarsely}
 use Rattle.archive.proofs.coarse_in_place.Goals as goal

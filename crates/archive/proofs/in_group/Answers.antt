@@ -1,5 +1,4 @@
 -- `archive::in_group` meets its contract: the cell's group in two bytes, low byte first; the other bytes are those of the request. Assumes nothing.
-use borrow.Author.Rules.{rules}
 use Rattle.archive.proofs.ArchiveLaws.{regrouped}
 use Rattle.archive.proofs.in_group.Goals as goal
 

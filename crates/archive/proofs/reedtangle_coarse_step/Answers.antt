@@ -1,5 +1,4 @@
 -- `archive::reedtangle_coarse_step` meets its contract, by that of `coarse_in_place`. Assumes nothing.
-use borrow.Author.Rules.{rules}
 use Rattle.archive.proofs.ArchiveLaws.{in_one}
 use Rattle.archive.proofs.reedtangle_coarse_step.Goals as goal
 

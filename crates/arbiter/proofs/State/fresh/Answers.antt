@@ -1,5 +1,4 @@
 -- `arbiter::State::fresh` meets its contract. Assumes nothing.
-use borrow.Author.Rules.{rules}
 use Rattle.arbiter.proofs.ReplayLaws.{fresh_law}
 use Rattle.arbiter.proofs.State.fresh.Goals as goal
 

@@ -1,5 +1,4 @@
 -- `arbiter::State::publish` meets its contract, by that of `publish_in_place` at the ports of the state. Assumes nothing.
-use borrow.Author.Rules.{rules}
 use Rattle.arbiter.proofs.State.publish.Goals as goal
 
 pub returns : goal.returns

@@ -1,5 +1,4 @@
 -- `archive::Catalogue::fresh` meets its contract. Assumes nothing.
-use borrow.Author.Rules.{rules}
 use Rattle.archive.proofs.ArchiveLaws.{fresh_law}
 use Rattle.archive.proofs.Catalogue.fresh.Goals as goal
 
