@@ -1,19 +1,18 @@
 -- Each contract of the crate's public functions leaves one result: two results that meet it are equal, and what stands in the lent table at exit too. A theorem for each
 -- function, named after it, of the contract itself: `Post` is what Rattle reads of the function's `ensures`.
 -- Assumes nothing.
-use mathlib.Core.Path.{◌≡◌, sym, ◌∙◌}
+use mathlib.Core.Path.{◌≡◌}
 use mathlib.Core.Logic.{⊎_elim}
 use mathlib.Core.Bool.{Bool, true, false}
 use mathlib.Core.List.{List}
 use Prim.Native.Nat.{ℕ, ◌<◌}
 use native.Mathlib.Omega.{arith}
-use lib.Dec.{eqb}
 use contract.Lifetimes.{Lfts}
 use borrow.Fn.Kinds.{Dens, res_t, ended_of}
 use denote.Triple.Clauses.{AtExit}
 use Rattle.graph.specs.Decide.{answer, eq_test, lt_test, false_is, true_is}
 use Rattle.reader.proofs.OneAnswer.{One}
-use Rattle.tallies.specs.Marks.{mark, LowestMark}
+use Rattle.tallies.specs.Marks.{LowestMark}
 use Rattle.jobsets.specs.GainLaws.{gains_one}
 use Rattle.jobsets.proofs.lowest_mark.Kinds as lowest_kinds
 use Rattle.jobsets.proofs.lowest_mark.Reads as lowest_reads
