@@ -1,7 +1,7 @@
 -- Lines by locks of an input that comes in parts, and what the program `locked` prints, by the rule of locks over the slots.
 -- Assumes nothing.
-use Rattle.std.specs.Prelude.{◌≡◌, refl, Bool, ℕ, suc, ◌+◌, ◌/◌, ◌%◌}
-use Rattle.std.proofs.Common.{sym, ap₂, ◌∙◌, add-zero, arith}
+use Rattle.std.specs.Prelude.{◌≡◌, refl, ℕ, suc, ◌+◌, ◌/◌, ◌%◌}
+use Rattle.std.proofs.Common.{sym, ◌∙◌, add-zero, arith}
 use Rattle.std.proofs.Math.Path.{ap}
 use mathlib.Core.List.{List, [], ◌∷◌, ◌++◌, append_assoc}
 use Rattle.std.proofs.Math.Dec.{eqb}

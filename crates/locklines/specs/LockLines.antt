@@ -3,7 +3,6 @@
 use Rattle.std.specs.Prelude.{List, ◌∷◌, [], ◌++◌, ℕ, ◌%◌, length}
 use Rattle.text.specs.Decimal.{decimal}
 use Rattle.history.specs.Formats.{records}
-use Rattle.history.specs.Replies.{Reply}
 use Rattle.held.specs.Held.{Held}
 use Rattle.locks.specs.Locks.{lock_replies, put_off}
 use Rattle.locks.specs.LocksHeld.{lock_answers}
