@@ -1,0 +1,8 @@
+use Rattle.std.proofs.Common.{◌≡◌, ◌≤◌, length, sym, arith, length-take-le, rules}
+use Rattle.byvalue.proofs.all.Goals as goal
+
+pub slice_bounds-batch-end-then-waiting-ge32768 : goal.slice_bounds-batch-end-then-waiting-ge32768
+slice_bounds-batch-end-then-waiting-ge32768 g c = sym (length-take-le _ _ (omega arith))
+
+pub slice_bounds-batch-end-3 : goal.slice_bounds-batch-end-3
+slice_bounds-batch-end-3 g c = sym (length-take-le _ _ (omega arith))

@@ -1,0 +1,10 @@
+-- `byvalue::batch` is safe and ends.
+-- Assumes nothing.
+use Rattle.std.proofs.Common.{◌-◌, ◌≤◌, rules}
+use Rattle.byvalue.proofs.batch.Given as goal
+
+abbrev pub invariant-loop-i : goal.invariant-loop-i
+invariant-loop-i l = l.i ≤ l.count
+
+abbrev pub decreases-loop-i : goal.decreases-loop-i
+decreases-loop-i l = l.count - l.i

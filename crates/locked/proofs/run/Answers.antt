@@ -1,0 +1,46 @@
+use mathlib.Core.Path.{◌≡◌, sym, ◌∙◌}
+use Prim.Native.Nat.{ℕ, ◌+◌, ◌-◌, ◌/◌, ◌%◌, ◌^◌, ◌≤◌, ◌<◌}
+use mir.Syntax.{w64}
+use mir.Val.{Fits}
+use native.Mathlib.Omega.{arith}
+use borrow.Author.Rules.{rules}
+use borrow.Author.Tests.{ltb-true, not-false}
+use Rattle.lines.specs.Writes.{most_place, roomy_place}
+use lib.ListN.{length}
+use lib.Seq.{length-take-le}
+use Rattle.locked.proofs.run.Goals as goal
+
+-- the place past the records fits
+counts : (p w : ℕ) → p < most_place → w < 2 ^ 64 → Fits w64 (p + (w - w % 8) / 8)
+counts p w h k = record { fits = omega arith }
+
+pub slice_bounds-write_all-end-2 : goal.slice_bounds-write_all-end-2
+slice_bounds-write_all-end-2 g c = sym (length-take-le _ _ c.header-n.ensures.within)
+
+pub slice_bounds-lock_lines-end-then-not-more : goal.slice_bounds-lock_lines-end-then-not-more
+slice_bounds-lock_lines-end-then-not-more g c = sym (length-take-le _ _ (omega arith))
+
+pub slice_bounds-write_all-end-then-not-more-2 : goal.slice_bounds-write_all-end-then-not-more-2
+slice_bounds-write_all-end-then-not-more-2 g c = sym (length-take-le _ _ c.lock_lines-done.ensures.put.within)
+
+pub overflow_add-place : goal.overflow_add-place
+overflow_add-place g c =
+    let p : c.loop-more.place < most_place = roomy_place _ _ _ (sym c.lock_lines-done.ensures.room ∙ not-false _ c.if-not-done.false) in
+    let w : c.loop-more.waiting + c.read_behind-got.result ≤ length c.loop-more.buf = c.read_behind-got.ensures in
+    counts c.loop-more.place (c.loop-more.waiting + c.read_behind-got.result) p (omega arith)
+
+pub loop-more-smaller-in-loop-more : goal.loop-more-smaller-in-loop-more
+loop-more-smaller-in-loop-more g c = omega (arith, c.if-turns-gt0.true)
+
+pub loop-more-preserved-in-loop-more : goal.loop-more-preserved-in-loop-more
+loop-more-preserved-in-loop-more g c =
+    (omega arith, omega arith, search rules, omega arith)
+
+pub loop-more-smaller : goal.loop-more-smaller
+loop-more-smaller g c = omega (arith, c.if-turns-gt0.true)
+
+pub slice_bounds-write_all-end-4 : goal.slice_bounds-write_all-end-4
+slice_bounds-write_all-end-4 g c = sym (length-take-le _ _ c.tail-last.ensures.within)
+
+pub slice_bounds-write_all-end-6 : goal.slice_bounds-write_all-end-6
+slice_bounds-write_all-end-6 g c = sym (length-take-le _ _ c.off_line-end.ensures.within)
