@@ -1,8 +1,8 @@
 -- Bytes: four that are put down or read, a run put down after another (`put_next`), and the words before a place.
 -- Assumes nothing.
 use Rattle.std.specs.Prelude.{◌≡◌, ℕ, suc, ◌+◌, ◌*◌, ◌/◌, ◌%◌, ◌<◌, ◌≤◌, false, List, [], ◌∷◌, ◌++◌, length, take, drop, set, replicate, ◌≢◌, nat_eq, slice_index, slice_set, refl}
-use Rattle.std.proofs.Common.{sym, ap, ap₂, ◌∙◌, append_assoc, append-nil, zero-add, add-zero, add-one, arith, length-append, length-take, length-drop, take-append-drop, length-take-le, take_all, take_at, drop_at, get_or-drop, drop-drop, take-add}
-use Rattle.std.proofs.lemmas.List.{length-replicate, get_or-replicate, take-append-le, drop-append-le}
+use Rattle.std.proofs.Common.{sym, ap, ap₂, ◌∙◌, append_assoc, append-nil, zero-add, add-zero, add-one, arith, length-append, length-drop, take-append-drop, length-take-le, take_at, drop_at, get_or-drop, drop-drop, take-add}
+use Rattle.std.proofs.lemmas.List.{length-replicate, get_or-replicate}
 use Rattle.std.proofs.Math.Seq.{take-length, take-append_seam, drop-append_seam, paste, paste-suc}
 use Rattle.std.proofs.lemmas.List.Edits.{sets-eq}
 use Rattle.text.specs.Lays.{Lays}
