@@ -6,14 +6,14 @@ use mathlib.Core.Option.{none, some}
 use mathlib.Core.List.{List, [], ◌∷◌, ◌++◌}
 use Prim.Native.Nat.{ℕ, zero, suc, ◌+◌, ◌*◌, ◌/◌, ◌%◌, ◌≤◌, ◌<◌}
 use native.Mathlib.Omega.{arith}
-use borrow.Author.Tests.{lt-ltb, le-ltb, eq-eqb, ne_eqb, not-true, not-false}
+use borrow.Author.Tests.{lt-ltb, le-ltb, eq-eqb, ne_eqb, not-false}
 use lib.Dec.{ltb, eqb}
 use lib.ListN.{length, get_or, take, drop, replicate, length-drop, take-append-drop}
 use lib.Seq.{take_all, get_or-take, get_or-drop, drop-drop}
-use Rattle.graph.specs.Decide.{every_of, test_true, test_false, true_is}
+use Rattle.graph.specs.Decide.{every_of, test_true, true_is}
 use Rattle.history.specs.Formats.{bytes_of}
 use Rattle.blocks.specs.Blocks.{sums, count_in, count_wrong, fault, fault_in}
-use Rattle.blocks.specs.SoundLaws.{zeros_test, Count, count_holds, count_shows, count_most, Sound, fault_none, wrong_sums, wrong_form}
+use Rattle.blocks.specs.SoundLaws.{zeros_test, Count, count_holds, count_shows, count_most, fault_none, wrong_sums, wrong_form}
 use Rattle.blocks.specs.WordLaws.{word_of_bytes}
 use Rattle.sums.specs.ByteLaws.{four_out, same_number, drop_take}
 
