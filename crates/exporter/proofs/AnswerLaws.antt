@@ -17,7 +17,7 @@ use Rattle.blocks.specs.RunLaws.{fills, fills_not}
 use Rattle.notation.specs.Notation.{text_of, without_abandoned, NoAdd}
 use Rattle.notation.specs.Answers.{before_adds, exported, export_of, export}
 use Rattle.notation.specs.FirstAddLaws.{Found, none, first, found}
-use Rattle.notation.specs.TextLaws.{exported_none}
+use Rattle.notation.proofs.TextLaws.{exported_none}
 use Rattle.exporter.specs.Exporter.{answered}
 use Rattle.exporter.specs.declared.Exported.{Exported}
 use Rattle.exporter.specs.declared.Exported.TheVariants.{Done, Length, Form, Turn, TooMany, Add, NoRoom}

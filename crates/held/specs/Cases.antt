@@ -1,4 +1,4 @@
--- Computed tables of the held rule: the cases of the full history (`held_cases`, and those of ports, `held_port_cases`); histories of our own that show the slots and the order of the
+-- Computed tables of the held rule: the cases of the full history (`held_p_cases` and `held_own_cases`, which `held_cases` of proofs/CaseLaws.antt joins, and those of ports, `held_port_cases`); histories of our own that show the slots and the order of the
 -- codes (`own_histories`); states that no requests give, with the answer to a request (`made_up_answers`) and, for some, the next state (`made_up_rows`; of
 -- all, to the last word, in crate `made`).
 --
@@ -6,9 +6,7 @@
 -- the slots led to and the cells of the four sets; the rows of the other slots are blank.
 -- Assumes nothing.
 use Rattle.std.specs.Prelude.{◌≡◌, refl, not, cond, List, [], ◌∷◌, ◌++◌, map, ℕ, ◌+◌, ◌-◌, ◌*◌, ◌/◌, ◌%◌, ◌^◌, eqb, length, replicate, take}
-use Rattle.std.proofs.Common.{⊎_elim}
 use Rattle.std.proofs.Math.Option.{Option, none, some}
-use mathlib.Core.List.Memᴰ
 use Rattle.std.specs.Int.Bits.{bit_or}
 use Rattle.graph.specs.Lists.{◌∈◌}
 use Rattle.marks.specs.Marks.{bit, mask_of, without, tab, upto}
@@ -34,9 +32,6 @@ held_p_cases c = rows held_answers replies_of (refl, (refl, (refl, (refl, (refl,
 pub held_own_cases : (c : Case) → c ∈ own_table → answers (fresh_held c.first) (requests_of c) ≡ replies_of c
 unfolding held_answers
 held_own_cases c = rows held_answers replies_of (refl, (refl, (refl, (refl, (refl, (refl, (refl, (refl, (refl, (refl, (refl, (refl, (refl, (refl, tt))))))))))))))
-
-pub held_cases : (c : Case) → c ∈ p_table ++ own_table → answers (fresh_held c.first) (requests_of c) ≡ replies_of c
-held_cases c m = ⊎_elim (held_p_cases c) (held_own_cases c) (Memᴰ.append_cases p_table m)
 
 -- and so in every case of ports
 unfoldable pub port_answers : Ports → List Reply

@@ -11,7 +11,7 @@ use Rattle.std.proofs.Math.Dec.{T}
 use Rattle.graph.specs.Decide.{not_test, is_false}
 use Rattle.graph.specs.Lists.{◌∈◌, before_left, before_right, before_from_only, Once, once_if}
 use Rattle.graph.specs.Listing.{Forward, LowestFirst}
-use Rattle.graph.specs.ListingLaws.{lowest_forward, lowest_least, forward_no_circle, lowest_first_some, lowest_first_none, lowest_first_exists, lowest_first_is}
+use Rattle.graph.proofs.ListingLaws.{lowest_forward, lowest_least, forward_no_circle, lowest_first_some, lowest_first_none, lowest_first_exists, lowest_first_is}
 use Rattle.history.specs.Events.{Kind, add, does, History, Step, has, abandoned, kept, all_steps, kept_steps, Precedes, Circular}
 use Rattle.history.specs.Turns.{Turns}
 use Rattle.history.specs.Orders.{layout, Accepted, order_of}

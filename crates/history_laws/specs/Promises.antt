@@ -12,7 +12,7 @@ use Rattle.std.proofs.Math.Option.{Option, none, some}
 use Rattle.graph.specs.Decide.{Decides, answer, test_true, test_false, eq_test, le_test}
 use Rattle.graph.specs.Lists.{◌∈◌, Before}
 use Rattle.graph.specs.Listing.{Forward, LowestFirst}
-use Rattle.graph.specs.ListingLaws.{lowest_only, forced_only}
+use Rattle.graph.proofs.ListingLaws.{lowest_only, forced_only}
 use Rattle.history.specs.Events.{Kind, write, add, kinds_clash, Deed, does, opening, ending, clash, opens, steps, ends, History, has, open_now, kept, Step, step_at, all_steps, kept_steps, Precedes, Circular, has_circle}
 use Rattle.history.specs.Replies.{cells, most_open, port_count, most_of_port, Request, Reply, an_open, a_step, an_end, a_publish, want, tests, code_of, event_of, job_of, reply_of, granted_of, of_port, Book, full, reply, after, book_after, replies, history_of, book_of}
 use Rattle.history_laws.specs.ReplyLaws.{reply_for, OpenReply, open_reply, as_kind, publish_reply, after_granted, Alike, alike_reply, alike_granted, alike_ports}

@@ -13,7 +13,7 @@ use lib.ListN.{length, get_or, take, drop}
 use lib.Seq.{get_or-take}
 use Rattle.graph.specs.Decide.{test_true, not_test, eq_test}
 use Rattle.graph.specs.Lists.{◌∈◌, only, only_length}
-use Rattle.graph.specs.ListingLaws.{lowest_forward}
+use Rattle.graph.proofs.ListingLaws.{lowest_forward}
 use Rattle.history.specs.Events.{History, has, opened, abandoned, kept}
 use Rattle.history.specs.Orders.{order_of}
 use Rattle.history_laws.specs.OrderLaws.{order_lowest, order_accepted}
@@ -22,7 +22,7 @@ use Rattle.verdicts.specs.Logs.{Reading, faulty, events, read_log}
 use Rattle.verdicts.specs.Verdicts.{Listed, refused, written}
 use Rattle.verdicts_laws.specs.VerdictLaws.{accepted_length}
 use Rattle.sheet.specs.Sheet.{at_rest, resting, sheet_of, of_whole, sheeted, sheet_in, list_sheet}
-use Rattle.sheet.specs.SheetLaws.{sheet_lowest, sheet_length, sheet_left}
+use Rattle.sheet.proofs.SheetLaws.{sheet_lowest, sheet_length, sheet_left}
 use Rattle.tallies.specs.Jobs.{status, Jobs}
 use Rattle.tallies.specs.Marks.{mark}
 use Rattle.tallies.specs.Places.{Lists}

@@ -13,7 +13,7 @@ use Rattle.history.specs.Replies.{Request, Reply}
 use Rattle.held.specs.Held.{Held, fresh_held}
 use Rattle.locks.specs.Locks.{put_off}
 use Rattle.locks.specs.LocksHeld.{lock_answer, lock_next, lock_answers, lock_state}
-use Rattle.locks.specs.LockPromises.{locks_exact}
+use Rattle.locks.proofs.LockPromises.{locks_exact}
 use Rattle.lines.specs.Lines.{line, lines, header_line, tail_line}
 use Rattle.lines.specs.LineLaws.{records_append, starts_one}
 use Rattle.locklines.specs.LockLines.{lock_lines_of, off_of, off_bytes, locked_output}

@@ -1,7 +1,3 @@
 pub mod Locks
 pub mod LocksHeld
 pub mod Cases
-pub mod LockLaws
-pub mod LockReplies
-pub mod LockExact
-pub mod LockPromises

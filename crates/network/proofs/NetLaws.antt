@@ -32,7 +32,7 @@ use Rattle.slots.specs.declared.Moved.{Moved}
 use Rattle.slots.proofs.CircleLaws.{circle_law}
 use Rattle.slots.proofs.RequestLaws.{slot, Found, slot_none}
 use Rattle.stations.specs.Stations.{Station, station_0, station_1, station_2, station_of, Network, part, state, master, view, joined_leads, joined, asked, network_facts, all_moved, one_moved, network_stepped, network_left, network_ended, network_abandoned, with_slot, network_moved}
-use Rattle.stations.specs.StationLaws.{stepped_master}
+use Rattle.stations.proofs.StationLaws.{stepped_master}
 use Rattle.network.specs.Nets.{net, joined_rows, StepsAt, StepsThere, network_code, Does}
 
 -- ---- a list that is filled from the start

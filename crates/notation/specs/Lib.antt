@@ -3,8 +3,5 @@ pub mod Parse
 pub mod Answers
 pub mod Cases
 pub mod FirstAddLaws
-pub mod ParseLaws
 pub mod LeftOutLaws
 pub mod ReadLaws
-pub mod TextLaws
-pub mod Promises

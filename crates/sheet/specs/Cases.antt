@@ -1,4 +1,4 @@
--- Tried logs: what the sheet's answer is to a log and a lent list, and what it leaves in the list, in one table under one statement (`sheet_cases`), computed from the definitions. A row is
+-- Tried logs: what the sheet's answer is to a log and a lent list, and what it leaves in the list, in one table under one statement (`sheet_cases`, in proofs/CaseLaws.antt), computed from the definitions. A row is
 -- as those of the lister are in the Cases of `verdicts`. And the order that a longer log is accepted with, where its own sheet begins otherwise (`still_accepted`).
 -- Assumes nothing.
 use Rattle.std.specs.Prelude.{◌≡◌, refl, List, [], ◌∷◌, ◌++◌}
@@ -31,7 +31,7 @@ AsExpected t = (c : ListCase) → c ∈ t → list_sheet c.bytes c.lent ≡ c.ex
 
 -- of two tables, one after the other
 infixr 5 ◌and◌
-◌and◌ : {t u : List ListCase} → AsExpected t → AsExpected u → AsExpected (t ++ u)
+pub ◌and◌ : {t u : List ListCase} → AsExpected t → AsExpected u → AsExpected (t ++ u)
 ◌and◌ {t} f g c m = ⊎_elim (f c) (g c) (Memᴰ.append_cases t m)
 
 -- 7, 8 and 9, the entries lent, are no jobs of any log here
@@ -65,7 +65,7 @@ rest_rows =
     ∷ log (opens 1 ∷ opens 2 ∷ writes 2 5 ∷ end 2 ∷ opens 3 ∷ end 3 ∷ []) into 7 ∷ 8 ∷ [] gets 0 at 2 leaving (2 ∷ 3 ∷ [])
     ∷ []
 
-rest_rows_hold : AsExpected rest_rows
+pub rest_rows_hold : AsExpected rest_rows
 unfolding answered
 rest_rows_hold c = rows answered (λ c. c.expected) (refl, (refl, (refl, (refl, (refl, (refl, (refl, (refl, (refl, (refl, (refl, (refl, (refl, (refl, (refl, (refl, (refl, (refl, tt))))))))))))))))))
 
@@ -91,7 +91,7 @@ order_rows =
     ∷ (ends_of_range ++ log (end 4_294_967_295 ∷ [])) into 7 ∷ [] gets 0 at 1 leaving (4_294_967_295 ∷ [])
     ∷ []
 
-order_rows_hold : AsExpected order_rows
+pub order_rows_hold : AsExpected order_rows
 unfolding answered
 order_rows_hold c = rows answered (λ c. c.expected) (refl, (refl, (refl, (refl, (refl, (refl, (refl, (refl, (refl, (refl, (refl, (refl, tt))))))))))))
 
@@ -113,17 +113,13 @@ refused_rows =
     ∷ (circle ++ log (end 1 ∷ reads 1 7 ∷ [])) into 7 ∷ 8 ∷ [] gets 13 at 7 leaving (7 ∷ 8 ∷ [])
     ∷ []
 
-refused_rows_hold : AsExpected refused_rows
+pub refused_rows_hold : AsExpected refused_rows
 unfolding answered
 refused_rows_hold c = rows answered (λ c. c.expected) (refl, (refl, (refl, (refl, (refl, (refl, (refl, (refl, (refl, tt)))))))))
 
 -- the whole table
 abbrev pub sheet_table : List ListCase
 sheet_table = rest_rows ++ order_rows ++ refused_rows
-
--- the answer to every row is the one expected, and so is what then stands in the list
-pub sheet_cases : (c : ListCase) → c ∈ sheet_table → list_sheet c.bytes c.lent ≡ c.expected
-sheet_cases = rest_rows_hold and order_rows_hold and refused_rows_hold
 
 -- the sheet of the shorter log was 2, and that of the longer is 1, 2; but 2, 1 is an accepted order of it too
 pub still_accepted : check (log (opens 1 ∷ opens 2 ∷ end 2 ∷ end 1 ∷ [])) (2 ∷ 1 ∷ []) ≡ verdict 0 2

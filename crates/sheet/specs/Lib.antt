@@ -1,5 +1,2 @@
 pub mod Sheet
 pub mod Cases
-pub mod RestLaws
-pub mod SheetLaws
-pub mod Promises

@@ -1,7 +1,3 @@
 pub mod Swaps
 pub mod CoarseSwaps
 pub mod Cases
-pub mod SwapLaws
-pub mod SwapOrders
-pub mod SwapPromises
-pub mod CoarseSwapPromises

@@ -11,7 +11,7 @@ use Rattle.graph.specs.Decide.{true_is, answer, and_test, not_test, eq_test, lt_
 use Rattle.graph.specs.Lists.{◌∈◌, here, later, before_from_only, Once, more, once_if, once_irreflexive, once_le, once_length, strike, strike_keeps, strike_from}
 use Rattle.graph.specs.Walk.{one}
 use Rattle.graph.specs.Listing.{Ready, LowestFirst, done, next}
-use Rattle.graph.specs.ListingLaws.{stuck}
+use Rattle.graph.proofs.ListingLaws.{stuck}
 use Rattle.history.specs.Events.{History, opened, abandoned, kept, kept_steps, Precedes, Circular}
 use Rattle.history_laws.specs.EventLaws.{precedes_test}
 use Rattle.history.specs.Orders.{order_of}

@@ -1,20 +1,19 @@
--- Tried logs. What the checker says of a log and a list stands in one table under one statement (`check_cases`); what the lister says of a log, and
+-- Tried logs. What the checker says of a log and a list stands in one table under one statement (`check_cases`, in proofs/CaseLaws.antt); what the lister says of a log, and
 -- leaves in the list lent to it, in another (`list_cases`). Both are computed from the definitions. So is P1's log, byte for byte (`p1_bytes`), and so are the logs
 -- of a case with publishes (`published_log`) and of one with adds (`adds_log`), and the two requests that the rules write as bytes (`two_read`, `two_written`).
 --
 -- A row has the log, the list handed over, and after `gets` the code and the place expected; after `leaving`, what the list then holds. A log is
 -- what a P case leaves, or is put down record by record, or as bytes. Places count from 0. The limits on a log's bytes and on its jobs are too
--- high to compute with: they are shown of any log (`bytes_above`, `bytes_within`, `jobs_above`, `jobs_within`, `jobs_below`).
+-- high to compute with: they are shown of any log (`bytes_above`, `bytes_within`, and `jobs_above`, `jobs_within`, `jobs_below` of proofs/CaseLaws.antt).
 -- Assumes nothing.
-use Rattle.std.specs.Prelude.{◌≡◌, refl, ◌⊎◌, Bool, not, ◌||◌, ℕ, zero, suc, ◌%◌, ◌≤◌, ◌<◌, leb, ltb, eqb, length}
-use Rattle.std.proofs.Math.Path.{ap, ap₂}
+use Rattle.std.specs.Prelude.{◌≡◌, refl, ◌⊎◌, Bool, not, ◌||◌, ℕ, zero, suc, ◌%◌, ◌≤◌, ◌<◌, ltb, eqb, length}
+use Rattle.std.proofs.Math.Path.{ap}
 use Rattle.std.proofs.Common.{inr, ⊎_elim, arith}
 use Rattle.std.proofs.Math.Bool.{cond}
 use mathlib.Core.List.Memᴰ
 use mathlib.Core.List.{List, [], ◌∷◌, ◌++◌, map}
-use Rattle.graph.specs.Decide.{Decides, or_test, not_test, eq_test, le_test, lt_test, every_of, every_test, test_true, test_false}
+use Rattle.graph.specs.Decide.{Decides, or_test, not_test, eq_test, lt_test, test_true, test_false}
 use Rattle.graph.specs.Lists.{◌∈◌}
-use Rattle.history.specs.Events.{History, opened}
 use Rattle.history.specs.Replies.{Request, history_of}
 use Rattle.history.specs.Cases.{reads, writes, adds, end, abandon, Case, requests_of, computed, p1, p3, p6, p7, p8, published, adds_alone, rows}
 use Rattle.history.specs.Formats.{records, bytes_of}
@@ -155,7 +154,7 @@ AsExpected t = (c : CheckCase) → c ∈ t → check c.bytes c.order ≡ c.expec
 
 -- of two tables, one after the other
 infixr 5 ◌and◌
-◌and◌ : {t u : List CheckCase} → AsExpected t → AsExpected u → AsExpected (t ++ u)
+pub ◌and◌ : {t u : List CheckCase} → AsExpected t → AsExpected u → AsExpected (t ++ u)
 ◌and◌ {t} f g c m = ⊎_elim (f c) (g c) (Memᴰ.append_cases t m)
 
 -- opens every definition that the tables compute with, so that a table needs to open only this one
@@ -183,7 +182,7 @@ entry_rows =
     ∷ [] with 1 ∷ [] gets 15 at 0
     ∷ []
 
-entry_rows_hold : AsExpected entry_rows
+pub entry_rows_hold : AsExpected entry_rows
 unfolding checked
 entry_rows_hold c = rows checked (λ c. c.expected) (refl, (refl, (refl, (refl, (refl, (refl, (refl, (refl, (refl, (refl, (refl, (refl, tt))))))))))))
 
@@ -198,7 +197,7 @@ length_rows =
     ∷ (log (raw 6 0 0 1 ∷ []) ++ 1 ∷ []) with [] gets 11 at 0
     ∷ []
 
-length_rows_hold : AsExpected length_rows
+pub length_rows_hold : AsExpected length_rows
 unfolding checked
 length_rows_hold c = rows checked (λ c. c.expected) (refl, (refl, (refl, (refl, (refl, tt)))))
 
@@ -229,7 +228,7 @@ form_rows =
     ∷ log (opens 1 ∷ raw 5 0 1 1 ∷ []) with [] gets 12 at 1
     ∷ []
 
-form_rows_hold : AsExpected form_rows
+pub form_rows_hold : AsExpected form_rows
 unfolding checked
 form_rows_hold c = rows checked (λ c. c.expected) (refl, (refl, (refl, (refl, (refl, (refl, (refl, (refl, (refl, (refl, (refl, (refl, (refl, (refl, (refl, (refl, (refl, (refl, tt))))))))))))))))))
 
@@ -254,7 +253,7 @@ turn_rows =
     ∷ log (opens 1 ∷ opens 2 ∷ reads 1 5 ∷ writes 2 6 ∷ abandon 1 ∷ []) with 2 ∷ [] gets 0 at 1
     ∷ []
 
-turn_rows_hold : AsExpected turn_rows
+pub turn_rows_hold : AsExpected turn_rows
 unfolding checked
 turn_rows_hold c = rows checked (λ c. c.expected) (refl, (refl, (refl, (refl, (refl, (refl, (refl, (refl, (refl, (refl, (refl, (refl, (refl, tt)))))))))))))
 
@@ -270,7 +269,7 @@ fault_rows =
     ∷ log (opens 1 ∷ reads 2 5 ∷ []) with 9 ∷ [] gets 13 at 1
     ∷ []
 
-fault_rows_hold : AsExpected fault_rows
+pub fault_rows_hold : AsExpected fault_rows
 unfolding checked
 fault_rows_hold c = rows checked (λ c. c.expected) (refl, (refl, (refl, (refl, (refl, tt)))))
 
@@ -292,7 +291,7 @@ kept_rows =
     ∷ log (chain ++ abandon 2 ∷ []) with 3 ∷ 1 ∷ [] gets 0 at 2
     ∷ []
 
-kept_rows_hold : AsExpected kept_rows
+pub kept_rows_hold : AsExpected kept_rows
 unfolding checked
 kept_rows_hold c = rows checked (λ c. c.expected) (refl, (refl, (refl, (refl, (refl, (refl, (refl, (refl, (refl, (refl, tt))))))))))
 
@@ -335,7 +334,7 @@ pair_rows =
     ∷ log overwritten with 2 ∷ 1 ∷ 3 ∷ 4 ∷ [] gets 16 at 5
     ∷ []
 
-pair_rows_hold : AsExpected pair_rows
+pub pair_rows_hold : AsExpected pair_rows
 unfolding checked
 pair_rows_hold c = rows checked (λ c. c.expected) (refl, (refl, (refl, (refl, (refl, (refl, (refl, (refl, (refl, (refl, (refl, (refl, (refl, (refl, (refl, (refl, (refl, (refl, (refl, (refl, (refl, (refl, (refl, (refl, (refl, (refl, (refl, tt)))))))))))))))))))))))))))
 
@@ -356,7 +355,7 @@ add_rows =
     ∷ log (opens 1 ∷ opens 2 ∷ opens 3 ∷ adds 1 5 ∷ adds 2 5 ∷ reads 3 5 ∷ []) with 1 ∷ 3 ∷ 2 ∷ [] gets 16 at 5
     ∷ []
 
-add_rows_hold : AsExpected add_rows
+pub add_rows_hold : AsExpected add_rows
 unfolding checked
 add_rows_hold c = rows checked (λ c. c.expected) (refl, (refl, (refl, (refl, (refl, (refl, (refl, (refl, (refl, tt)))))))))
 
@@ -381,7 +380,7 @@ time_rows =
     ∷ log (opens 1 ∷ opens 2 ∷ reads 1 0 ∷ writes 1 7 ∷ end 1 ∷ reads 2 0 ∷ end 2 ∷ []) with 2 ∷ 1 ∷ [] gets 0 at 2
     ∷ []
 
-time_rows_hold : AsExpected time_rows
+pub time_rows_hold : AsExpected time_rows
 unfolding checked
 time_rows_hold c = rows checked (λ c. c.expected) (refl, (refl, (refl, (refl, (refl, (refl, (refl, (refl, (refl, (refl, (refl, (refl, tt))))))))))))
 
@@ -399,17 +398,13 @@ number_rows =
     ∷ log (map opens (up_to 33 [])) with up_to 33 [] gets 0 at 33
     ∷ []
 
-number_rows_hold : AsExpected number_rows
+pub number_rows_hold : AsExpected number_rows
 unfolding checked
 number_rows_hold c = rows checked (λ c. c.expected) (refl, (refl, (refl, (refl, (refl, (refl, tt))))))
 
 -- the whole table
 abbrev pub check_table : List CheckCase
 check_table = entry_rows ++ length_rows ++ form_rows ++ turn_rows ++ fault_rows ++ kept_rows ++ pair_rows ++ add_rows ++ time_rows ++ number_rows
-
--- the checker's verdict on every row is the one expected
-pub check_cases : (c : CheckCase) → c ∈ check_table → check c.bytes c.order ≡ c.expected
-check_cases = entry_rows_hold and length_rows_hold and form_rows_hold and turn_rows_hold and fault_rows_hold and kept_rows_hold and pair_rows_hold and add_rows_hold and time_rows_hold and number_rows_hold
 
 -- ---- the lister
 
@@ -496,22 +491,3 @@ module _ (bytes : List ℕ) where
   pub bytes_within : length bytes % 8 ≡ 0 → length bytes ≤ 32_768 → read_log bytes ≡ read_from [] 0 (records bytes)
   unfolding read_log
   bytes_within m l = ap (λ (b : Bool). cond b (faulty 11 0) (read_from [] 0 (records bytes))) (test_false bytes_test (⊎_elim (λ f. f m) (λ q. omega arith)))
-
-module _ (h : History) (j : ℕ) where
-  -- of an open in form, the fault by its two tests
-  open_fault : {a b : Bool} → every_of (λ i. ltb i j) (opened h) ≡ a → leb 512 (length (opened h)) ≡ b → fault_of h (opens j) ≡ cond (not a) 13 (cond b 14 0)
-  unfolding computed fault_of ill_formed out_of_turn too_many
-  open_fault p q = ap₂ (λ (a b : Bool). cond (not a) 13 (cond b 14 0)) p q
-
-  above_test : Decides (every_of (λ i. ltb i j) (opened h)) ((i : ℕ) → i ∈ opened h → i < j)
-  above_test = every_test (λ i. lt_test i j) (opened h)
-
-  -- an open above all opens before it gets 14 after 512 of them, and has no fault after fewer; one that is not above them gets 13 even then
-  pub jobs_above : ((i : ℕ) → i ∈ opened h → i < j) → 512 ≤ length (opened h) → fault_of h (opens j) ≡ 14
-  jobs_above f n = open_fault (test_true above_test f) (test_true (le_test 512 (length (opened h))) n)
-
-  pub jobs_within : ((i : ℕ) → i ∈ opened h → i < j) → length (opened h) < 512 → fault_of h (opens j) ≡ 0
-  jobs_within f n = open_fault (test_true above_test f) (test_false (le_test 512 (length (opened h))) (λ q. omega arith))
-
-  pub jobs_below : (((i : ℕ) → i ∈ opened h → i < j) → ⊥) → fault_of h (opens j) ≡ 13
-  jobs_below f = open_fault (test_false above_test f) refl

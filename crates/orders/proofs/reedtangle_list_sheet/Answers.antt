@@ -4,7 +4,7 @@ use native.Mathlib.Omega.{arith}
 use borrow.Author.Rules.{rules}
 use Rattle.verdicts.specs.Verdicts.{Listed}
 use Rattle.sheet.specs.Sheet.{list_sheet}
-use Rattle.sheet.specs.SheetLaws.{sheet_small}
+use Rattle.sheet.proofs.SheetLaws.{sheet_small}
 use Rattle.lists.proofs.ListedLaws.{same_code, same_place, same_list}
 use Rattle.orders.proofs.reedtangle_list_sheet.Goals as goal
 

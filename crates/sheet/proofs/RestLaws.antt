@@ -12,7 +12,7 @@ use mathlib.Core.List.{List, [], ◌∷◌, ◌++◌, append-nil, append_assoc}
 use Rattle.graph.specs.Decide.{Decides, and_test, not_test, read_as, some_test, answer}
 use Rattle.graph.specs.Lists.{◌∈◌, only, only_keeps, only_from, only_all, Before, before_right, before_in_left, before_in_right, before_across, before_append, Once, once_if, once_irreflexive, once_only}
 use Rattle.graph.specs.Listing.{Forward}
-use Rattle.graph.specs.ListingLaws.{lowest_forward, lowest_first_some, lowest_first_exists}
+use Rattle.graph.proofs.ListingLaws.{lowest_forward, lowest_first_some, lowest_first_exists}
 use Rattle.graph.specs.Reach.{reach_test}
 use Rattle.graph.specs.Walk.{Via, one, step, join, relax}
 use Rattle.history.specs.Events.{Kind, Event, opens, steps, History, gather, ended_by, abandoned_by, has, ended, abandoned, kept, open_now, kept_steps, Precedes, Circular, acting}

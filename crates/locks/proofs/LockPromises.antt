@@ -25,9 +25,9 @@ use Rattle.verdicts_laws.specs.LogLaws.{read_back}
 use Rattle.verdicts_laws.specs.Promises.{gives_exactly}
 use Rattle.locks.specs.Locks.{HeldUp, locked, ten_for_seven, lock_reply, lock_granted, lock_after, lock_book_after, lock_replies, lock_history, lock_book, put_off}
 use Rattle.locks.specs.LocksHeld.{put_off_at, lock_answer, lock_next, lock_answers, lock_state}
-use Rattle.locks.specs.LockLaws.{held_up_test, Locked, locked_part, locked_turns, locked_free}
-use Rattle.locks.specs.LockReplies.{held_up_by, AsksStep, step_code, Rest, rest_reply, rest_after, rest_book, Published, published, reply_or_off, after_or_off, book_or_off, granted_locked, granted_sound, granted_ported, not_seven, none_seven, part_list}
-use Rattle.locks.specs.LockExact.{exact}
+use Rattle.locks.proofs.LockLaws.{held_up_test, Locked, locked_part, locked_turns, locked_free}
+use Rattle.locks.proofs.LockReplies.{held_up_by, AsksStep, step_code, Rest, rest_reply, rest_after, rest_book, Published, published, reply_or_off, after_or_off, book_or_off, granted_locked, granted_sound, granted_ported, not_seven, none_seven, part_list}
+use Rattle.locks.proofs.LockExact.{exact}
 
 -- ---- no circle
 

@@ -15,7 +15,7 @@ use Rattle.std.proofs.Math.ListN.{length}
 use Rattle.graph.specs.Decide.{not_test, is_false, eq_test, test_true, by_test, chosen}
 use Rattle.graph.specs.Lists.{◌∈◌, Before, before_left, before_right}
 use Rattle.graph.specs.Listing.{Forward}
-use Rattle.graph.specs.ListingLaws.{lowest_forward, lowest_first_some, lowest_first_exists}
+use Rattle.graph.proofs.ListingLaws.{lowest_forward, lowest_first_some, lowest_first_exists}
 use Rattle.history.specs.Events.{Kind, write, Event, opens, steps, ends, abandons, History, has, abandoned, kept, open_now, alters_by, Step, all_steps, kept_steps, Precedes, Circular, has_circle}
 use Rattle.history.specs.Replies.{cells, most_open, numbers, port_count, most_of_port, Request, Reply, Want, an_open, a_step, an_end, an_abandon, a_publish, nothing, want, Facts, first_of, step_tests, tests, code_of, event_of, reply_of, granted_of, Book, blank_book, full, reply, after, replies_from, history_from, book_from, replies, history_of, book_of}
 use Rattle.history_laws.specs.ReplyLaws.{reply_for}
@@ -31,7 +31,7 @@ use Rattle.history_laws.specs.RunLaws.{run_rearranged, run_kept}
 use Rattle.history_laws.specs.OrderLaws.{step_kept}
 use Rattle.history_laws.specs.TimeLaws.{by_time, precedes_goes, goes_precedes, ended_precedes}
 use Rattle.coarse.specs.Coarse.{grouped_event, grouped, in_group, AsksStep, with_step, coarse_reply, coarse_granted, coarse_after, coarse_book, coarse_replies_from, coarse_history_from, coarse_book_from, coarse_replies, coarse_history, coarse_book_of, InTurnBelow, InTurnBelowAfter}
-use Rattle.coarse.specs.GroupLaws.{map_in, map_before, opened_grouped, abandoned_grouped, kept_jobs_grouped, open_grouped, wrote_grouped, grouped_step, all_grouped, kept_grouped, group_precedes}
+use Rattle.coarse.proofs.GroupLaws.{map_in, map_before, opened_grouped, abandoned_grouped, kept_jobs_grouped, open_grouped, wrote_grouped, grouped_step, all_grouped, kept_grouped, group_precedes}
 
 -- the codes of a step in their order: is its group above 255, is its job open, does it close a circle?
 abbrev pub code_by : Bool → Bool → Bool → ℕ

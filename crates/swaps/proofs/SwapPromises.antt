@@ -19,8 +19,8 @@ use Rattle.history_laws.specs.Granted.{granted_sound}
 use Rattle.held.specs.Held.{Held, fresh_held, answer_to, after, answers, after_all}
 use Rattle.held_laws.specs.HeldExact.{held_exact}
 use Rattle.swaps.specs.Swaps.{clear, Apart, ChangePlaces, GivenAgain}
-use Rattle.swaps.specs.SwapLaws.{Clear, clear_sym, clear_test, places_changed, given_twice, answers_append, after_append}
-use Rattle.swaps.specs.SwapOrders.{logged, log_of, swapped_precedes, swapped_accepted, swapped_listed}
+use Rattle.swaps.proofs.SwapLaws.{Clear, clear_sym, clear_test, places_changed, given_twice, answers_append, after_append}
+use Rattle.swaps.proofs.SwapOrders.{logged, log_of, swapped_precedes, swapped_accepted, swapped_listed}
 
 -- ---- apart
 

@@ -20,7 +20,7 @@ use Rattle.held.specs.Held.{Held, fresh_held, open_at, is_some, slot_of, opened_
 use Rattle.held_laws.specs.HeldExact.{held_exact}
 use Rattle.held_laws.specs.HeldBlank.{Ranges, ranges_moves, ranges_fresh, Blank, blank_moves, blank_fresh}
 use Rattle.stations.specs.Stations.{Station, station_of, Network, master, view, joined, network_facts, network_opened, network_stepped, network_ended, network_abandoned, with_slot, network_moved, fresh_network, network_answer, network_after, network_answers, network_after_all, Home}
-use Rattle.stations.specs.StationLaws.{view_opened, view_stepped, view_stepped_there, view_left, view_fresh, home_fresh, home_moves, facts_joined, stepped_master, Moves, network_kept, joined_after, joined_fresh}
+use Rattle.stations.proofs.StationLaws.{view_opened, view_stepped, view_stepped_there, view_left, view_fresh, home_fresh, home_moves, facts_joined, stepped_master, Moves, network_kept, joined_after, joined_fresh}
 
 -- ---- the answers
 

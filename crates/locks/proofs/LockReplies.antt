@@ -24,7 +24,7 @@ use Rattle.history_laws.specs.TurnLaws.{has_test, open_steps, orderly}
 use Rattle.history_laws.specs.Granted.{below_bound, passed, undenied, proper_step, Sound, sound_start, sound_after}
 use Rattle.history_laws.specs.PortLaws.{Ported, ported_start, ported_granted}
 use Rattle.locks.specs.Locks.{HeldUp, held_up, of_step, locked, ten_for_seven, lock_reply, lock_granted, lock_after, lock_book_after, lock_replies_from, lock_history_from, lock_book_from, lock_history, lock_book}
-use Rattle.locks.specs.LockLaws.{held_up_test, LockedAfter, Locked, locked_append, locked_free}
+use Rattle.locks.proofs.LockLaws.{held_up_test, LockedAfter, Locked, locked_append, locked_free}
 
 -- ---- what gets 10
 

@@ -16,7 +16,7 @@ use Rattle.history.specs.Turns.{Turns}
 use Rattle.history.specs.Orders.{Accepted, order_of}
 use Rattle.history_laws.specs.TimeLaws.{Goes, by_steps, by_time, precedes_goes, goes_precedes}
 use Rattle.history_laws.specs.OrderLaws.{accepted_forward, forward_accepted, order_lowest, lowest_order}
-use Rattle.swaps.specs.SwapLaws.{Clear, clear_sym}
+use Rattle.swaps.proofs.SwapLaws.{Clear, clear_sym}
 
 -- ---- an event is one thing
 

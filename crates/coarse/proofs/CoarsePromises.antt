@@ -20,8 +20,8 @@ use Rattle.held.specs.Held.{Held, fresh_held, answer_to, answers, after_all}
 use Rattle.held_laws.specs.HeldExact.{held_exact}
 use Rattle.coarse.specs.Coarse.{coarse_cells, group, grouped_event, grouped, in_group, AsksStep, with_step, coarse_reply, coarse_replies, coarse_history, coarse_book_of, TurnsBelow}
 use Rattle.coarse.specs.CoarseHeld.{coarse_answer, coarse_next, coarse_answers, coarse_state}
-use Rattle.coarse.specs.GroupLaws.{group_below, group_bound, opened_grouped, ended_grouped, abandoned_grouped, kept_jobs_grouped, open_grouped, wrote_grouped}
-use Rattle.coarse.specs.CoarseLaws.{replies_grouped, history_grouped, book_grouped, grouped_sound, code_by, step_code, granted_free, two_asks, turns_true, accepted_true, order_true, exists_true, time_true, cells_true, sights_true}
+use Rattle.coarse.proofs.GroupLaws.{group_below, group_bound, opened_grouped, ended_grouped, abandoned_grouped, kept_jobs_grouped, open_grouped, wrote_grouped}
+use Rattle.coarse.proofs.CoarseLaws.{replies_grouped, history_grouped, book_grouped, grouped_sound, code_by, step_code, granted_free, two_asks, turns_true, accepted_true, order_true, exists_true, time_true, cells_true, sights_true}
 
 -- ---- the exact rule on the grouped history
 
@@ -38,10 +38,10 @@ coarse_is_exact g first rs = record { answered = replies_grouped g first rs; lef
 
 -- whoever precedes another by true cells precedes it by groups, and so a circle by true cells is one by groups
 pub group_precedes : (g : ℕ → ℕ) (h : History) (i j : ℕ) → Precedes (kept_steps h) i j → Precedes (kept_steps (grouped g h)) i j
-group_precedes g h i j = Rattle.coarse.specs.GroupLaws.group_precedes g h i j
+group_precedes g h i j = Rattle.coarse.proofs.GroupLaws.group_precedes g h i j
 
 pub group_circle : (g : ℕ → ℕ) (h : History) → Circular (kept_steps h) → Circular (kept_steps (grouped g h))
-group_circle g h = Rattle.coarse.specs.GroupLaws.group_circle g h
+group_circle g h = Rattle.coarse.proofs.GroupLaws.group_circle g h
 
 -- cells have no part in which jobs are opened, ended, abandoned, kept, open, and which have written
 pub record SameJobs (g : ℕ → ℕ) (h : History) : Type 0 where

@@ -9,7 +9,7 @@ use Rattle.std.proofs.Math.Path.{subst}
 use Rattle.std.proofs.Math.Option.{some}
 use Rattle.graph.specs.Lists.{◌∈◌, only, Once}
 use Rattle.graph.specs.Listing.{lowest_first, LowestFirst}
-use Rattle.graph.specs.ListingLaws.{lowest_forward, lowest_only}
+use Rattle.graph.proofs.ListingLaws.{lowest_forward, lowest_only}
 use Rattle.history.specs.Events.{Event, History, opened, open_now, kept_steps, Precedes, precedes, Circular}
 use Rattle.history.specs.Replies.{Request, history_of}
 use Rattle.history.specs.Turns.{Turns}
@@ -21,8 +21,8 @@ use Rattle.verdicts_laws.specs.LogLaws.{read_turns, opened_length, granted_read}
 use Rattle.verdicts.specs.Verdicts.{check, Listed}
 use Rattle.verdicts_laws.specs.VerdictLaws.{check_exactly}
 use Rattle.sheet.specs.Sheet.{AtRest, at_rest, resting, sheet_of, sheet_in, list_sheet}
-use Rattle.sheet.specs.RestLaws.{resting_exactly, resting_once, all_rest, rest_stays, sheet_first}
-use Rattle.sheet.specs.SheetLaws.{sheet_lowest, sheet_exists, lowest_sheet, sheet_length, sheet_left, SheetAs, no_room, no_order, a_sheet, sheeted_right, Morning, log_faulty, log_read, sheet_right, morning_only, sheet_small, goes_on}
+use Rattle.sheet.proofs.RestLaws.{resting_exactly, resting_once, all_rest, rest_stays, sheet_first}
+use Rattle.sheet.proofs.SheetLaws.{sheet_lowest, sheet_exists, lowest_sheet, sheet_length, sheet_left, SheetAs, no_room, no_order, a_sheet, sheeted_right, Morning, log_faulty, log_read, sheet_right, morning_only, sheet_small, goes_on}
 
 -- ---- the sheet
 

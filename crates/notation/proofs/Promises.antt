@@ -13,9 +13,9 @@ use Rattle.verdicts.specs.Logs.{events, read_log, log_of}
 use Rattle.blocks.specs.Blocks.{Filled, refused, done}
 use Rattle.notation.specs.Notation.{text_of, Says, Form, Wrong, without_abandoned, NoAdd, FirstAdd}
 use Rattle.notation.specs.Answers.{import, export, written, Bytes, Imported, Exported}
-use Rattle.notation.specs.ParseLaws.{says_once}
+use Rattle.notation.proofs.ParseLaws.{says_once}
 use Rattle.notation.specs.ReadLaws.{read_is}
-use Rattle.notation.specs.TextLaws.{import_right, export_right, import_wrong, fault_other, not_formed, twenty_six, wrong_there, too_long, eleven, refuses_add, twenty_seven, makes_text, text_made, says_none, imported_back, exported_back, import_nothing, export_nothing, export_short, wrong_inside, add_inside, log_short}
+use Rattle.notation.proofs.TextLaws.{import_right, export_right, import_wrong, fault_other, not_formed, twenty_six, wrong_there, too_long, eleven, refuses_add, twenty_seven, makes_text, text_made, says_none, imported_back, exported_back, import_nothing, export_nothing, export_short, wrong_inside, add_inside, log_short}
 
 -- ---- what an answer means, code by code
 

@@ -12,7 +12,7 @@ use Rattle.std.proofs.Math.ListN.{length}
 use Rattle.graph.specs.Decide.{and_test, not_test, own_test, eq_test, lt_test, same_test, by_test, true_is, false_is}
 use Rattle.graph.specs.Lists.{only, only_keeps, only_from, only_same, only_only, only_length, strike, once_length}
 use Rattle.graph.specs.Listing.{LowestFirst, done, next}
-use Rattle.graph.specs.ListingLaws.{lowest_forward, lowest_only, lowest_first_some, lowest_first_exists}
+use Rattle.graph.proofs.ListingLaws.{lowest_forward, lowest_only, lowest_first_some, lowest_first_exists}
 use Rattle.history.specs.Events.{Event, History, has, opened, abandoned, kept, kept_steps, Precedes, Circular}
 use Rattle.history.specs.Replies.{Request, Book, blank_book, full, granted_of, after, book_after, history_from, history_of}
 use Rattle.history.specs.Turns.{Turns}
@@ -24,7 +24,7 @@ use Rattle.verdicts_laws.specs.LogLaws.{read_turns}
 use Rattle.verdicts.specs.Verdicts.{Listed, refused, written}
 use Rattle.verdicts_laws.specs.SizeLaws.{LogSize, log_size, fault_known, Small}
 use Rattle.sheet.specs.Sheet.{at_rest, resting, sheet_of, of_whole, sheeted, sheet_in, list_sheet}
-use Rattle.sheet.specs.RestLaws.{rest_test, resting_once, rest_before}
+use Rattle.sheet.proofs.RestLaws.{rest_test, resting_once, rest_before}
 
 -- ---- the sheet
 

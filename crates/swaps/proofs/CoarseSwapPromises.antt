@@ -13,8 +13,8 @@ use Rattle.coarse.specs.Coarse.{group, in_group}
 use Rattle.coarse.specs.CoarseHeld.{coarse_answer, coarse_next, coarse_state}
 use Rattle.swaps.specs.Swaps.{Apart}
 use Rattle.swaps.specs.CoarseSwaps.{group_clear, GroupApart, CoarseChangePlaces, CoarseGivenAgain}
-use Rattle.swaps.specs.SwapLaws.{clear_test}
-use Rattle.swaps.specs.SwapPromises.{apart_exactly, change_places_any, given_again_any}
+use Rattle.swaps.proofs.SwapLaws.{clear_test}
+use Rattle.swaps.proofs.SwapPromises.{apart_exactly, change_places_any, given_again_any}
 
 -- ---- apart by groups
 

@@ -1,0 +1,3 @@
+pub mod GroupLaws
+pub mod CoarseLaws
+pub mod CoarsePromises

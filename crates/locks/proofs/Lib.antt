@@ -1,0 +1,4 @@
+pub mod LockLaws
+pub mod LockReplies
+pub mod LockExact
+pub mod LockPromises

@@ -1,0 +1,3 @@
+pub mod ParseLaws
+pub mod TextLaws
+pub mod Promises

@@ -1,0 +1,4 @@
+pub mod RestLaws
+pub mod SheetLaws
+pub mod Promises
+pub mod CaseLaws

@@ -1,0 +1,4 @@
+pub mod SwapLaws
+pub mod SwapOrders
+pub mod SwapPromises
+pub mod CoarseSwapPromises
