@@ -1,0 +1,10 @@
+-- `rooms::all` is safe and ends: the turns fall.
+-- Assumes nothing.
+use Rattle.std.proofs.Common.{rules}
+use Rattle.rooms.proofs.all.Given as goal
+
+abbrev pub invariant-loop-turns : goal.invariant-loop-turns
+invariant-loop-turns g l = Unit {0}
+
+abbrev pub decreases-loop-turns : goal.decreases-loop-turns
+decreases-loop-turns g l = l.turns
