@@ -69,6 +69,7 @@ fn used(front: &[u8], from: usize) -> bool
 }
 
 // May the block at place k of n not have this count?
+#[tactic(auto, using(crate::proofs::FaultLaws::count_empty))]
 fn miscounted(n: usize, k: usize, count: usize) -> bool
     requires { k < n }
     ensures { result ≡ count_wrong n k count }

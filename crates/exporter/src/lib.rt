@@ -138,6 +138,7 @@ fn put_told(step: u32, numbers: &[u32; 512], states: &[u8; 512], out: &mut [u8],
 // ---- adds
 
 // Does it tell of an add? It is its row plus 1, modulo 770, and the rows of adds are 512 to 767.
+#[tactic(auto, unfolding(crate::specs::Exporter::add_told))]
 fn is_add(step: u32) -> bool
     ensures { result ≡ add_told step }
 {

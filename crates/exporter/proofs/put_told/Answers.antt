@@ -14,4 +14,4 @@ returns-then-stand-job-eq4 c =
 
 pub returns : goal.returns
 returns c =
-    puts_as (sym (told_kept c.args.numbers.now c.args.states.now c.args.step c.args.at c.if-step-eq0.false c.if-stand-job-eq4.false)) (puts_both c.put_blank-from.ensures c.put_symbol.ensures)
+    puts_as (sym (told_kept c.args.numbers.now c.args.states.now c.args.step c.args.at c.if-step-eq0.false (λ e. omega arith))) (puts_both c.put_blank-from.ensures c.put_symbol.ensures)

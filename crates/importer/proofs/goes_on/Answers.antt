@@ -10,4 +10,4 @@ returns-then-n-eq0 c = rw (eq-eqb c.args.n 0 (omega arith))
 
 pub returns : goal.returns
 unfolding goes_on
-returns c = rw (ne_eqb c.args.n 0 c.if-n-eq0.false)
+returns c = rw (ne_eqb c.args.n 0 (λ e. omega arith))
