@@ -8,10 +8,10 @@ pub returns-then-code-eq0 : goal.returns-then-code-eq0
 returns-then-code-eq0 c = c.put_accepted.ensures (omega arith)
 
 pub returns-in-15 : goal.returns-in-15
-returns-in-15 c = c.put_entry.ensures (c.Put-refused.ensures (omega arith))
+returns-in-15 c = c.put_entry.ensures (c.put_refused-at.ensures (omega arith))
 
 pub returns-in-16 : goal.returns-in-16
-returns-in-16 c = c.put_counted.ensures (c.Put-refused.ensures (omega arith))
+returns-in-16 c = c.put_counted.ensures (c.put_refused-at.ensures (omega arith))
 
 pub returns-in_default : goal.returns-in_default
-returns-in_default c = c.put_fault.ensures (c.Put-refused.ensures (omega arith))
+returns-in_default c = c.put_fault.ensures (c.put_refused-at.ensures (omega arith))

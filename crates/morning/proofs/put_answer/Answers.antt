@@ -9,10 +9,10 @@ pub returns-then-code-eq0 : goal.returns-then-code-eq0
 returns-then-code-eq0 c = c.put_numbers.ensures (c.put_accepted-at.ensures (omega arith))
 
 pub returns-in-17 : goal.returns-in-17
-returns-in-17 c = lays_within c.put_text.ensures (c.Put-refused.ensures (omega arith))
+returns-in-17 c = lays_within c.put_text.ensures (c.put_refused-at.ensures (omega arith))
 
 pub returns-in-18 : goal.returns-in-18
-returns-in-18 c = c.put_counted.ensures (c.Put-refused.ensures (omega arith))
+returns-in-18 c = c.put_counted.ensures (c.put_refused-at.ensures (omega arith))
 
 pub returns-in_default : goal.returns-in_default
-returns-in_default c = c.put_fault.ensures (c.Put-refused.ensures (omega arith))
+returns-in_default c = c.put_fault.ensures (c.put_refused-at.ensures (omega arith))
