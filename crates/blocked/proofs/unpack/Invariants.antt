@@ -1,0 +1,10 @@
+-- `blocked::unpack` is safe and ends.
+-- Assumes nothing.
+use Rattle.std.proofs.Common.{◌-◌, rules}
+use Rattle.blocked.proofs.unpack.Given as goal
+
+abbrev pub invariant-loop-i : goal.invariant-loop-i
+invariant-loop-i l = Unit {0}
+
+abbrev pub decreases-loop-i : goal.decreases-loop-i
+decreases-loop-i l = l.size - l.i

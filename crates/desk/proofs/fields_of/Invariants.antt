@@ -1,0 +1,10 @@
+-- `desk::fields_of` is safe and ends.
+-- Assumes nothing.
+use Rattle.std.proofs.Common.{◌-◌, length, rules}
+use Rattle.desk.proofs.fields_of.Given as goal
+
+abbrev pub invariant-loop-i : goal.invariant-loop-i
+invariant-loop-i l = Unit {0}
+
+abbrev pub decreases-loop-i : goal.decreases-loop-i
+decreases-loop-i l = length l.text - l.i

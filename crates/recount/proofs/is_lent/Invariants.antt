@@ -1,0 +1,10 @@
+-- `recount::is_lent` is safe and ends.
+-- Assumes nothing.
+use Rattle.std.proofs.Common.{◌-◌, length, rules}
+use Rattle.recount.proofs.is_lent.Given as goal
+
+abbrev pub invariant-loop-i : goal.invariant-loop-i
+invariant-loop-i l = Unit {0}
+
+abbrev pub decreases-loop-i : goal.decreases-loop-i
+decreases-loop-i l = length l.entries - l.i

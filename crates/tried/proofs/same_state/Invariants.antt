@@ -1,0 +1,10 @@
+-- `tried::same_state` is safe and ends.
+-- Assumes nothing.
+use Rattle.std.proofs.Common.{◌-◌, ◌≤◌, rules}
+use Rattle.tried.proofs.same_state.Given as goal
+
+abbrev pub invariant-loop-i : goal.invariant-loop-i
+invariant-loop-i l = l.i ≤ 512
+
+abbrev pub decreases-loop-i : goal.decreases-loop-i
+decreases-loop-i l = 512 - l.i
