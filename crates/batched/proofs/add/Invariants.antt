@@ -1,6 +1,6 @@
 -- `batched::add` is safe and ends.
 -- Assumes nothing.
-use Rattle.std.proofs.Common.{◌-◌, rules}
+use Rattle.std.proofs.Common.{◌-◌}
 use Rattle.batched.proofs.add.Given as goal
 
 abbrev pub invariant-loop-i : goal.invariant-loop-i

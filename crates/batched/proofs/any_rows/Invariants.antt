@@ -1,6 +1,6 @@
 -- `batched::any_rows` is safe and ends.
 -- Assumes nothing.
-use Rattle.std.proofs.Common.{◌-◌, rules}
+use Rattle.std.proofs.Common.{◌-◌}
 use Rattle.batched.proofs.any_rows.Given as goal
 
 abbrev pub invariant-loop-i : goal.invariant-loop-i

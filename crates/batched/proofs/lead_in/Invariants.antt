@@ -1,6 +1,6 @@
 -- `batched::lead_in` is safe and ends.
 -- Assumes nothing.
-use Rattle.std.proofs.Common.{◌-◌, rules}
+use Rattle.std.proofs.Common.{◌-◌}
 use Rattle.batched.proofs.lead_in.Given as goal
 
 abbrev pub invariant-loop-i : goal.invariant-loop-i

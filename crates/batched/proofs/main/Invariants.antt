@@ -1,6 +1,6 @@
 -- `batched::main` is safe and ends.
 -- Assumes nothing.
-use Rattle.std.proofs.Common.{◌-◌, rules}
+use Rattle.std.proofs.Common.{◌-◌}
 use Rattle.batched.proofs.main.Given as goal
 
 abbrev pub invariant-loop-k : goal.invariant-loop-k

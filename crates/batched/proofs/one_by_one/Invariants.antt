@@ -1,6 +1,6 @@
 -- `batched::one_by_one` is safe and ends.
 -- Assumes nothing.
-use Rattle.std.proofs.Common.{◌-◌, rules}
+use Rattle.std.proofs.Common.{◌-◌}
 use Rattle.batched.proofs.one_by_one.Given as goal
 
 abbrev pub invariant-loop-i : goal.invariant-loop-i

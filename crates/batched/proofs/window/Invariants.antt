@@ -1,6 +1,6 @@
 -- `batched::window` is safe and ends.
 -- Assumes nothing.
-use Rattle.std.proofs.Common.{◌-◌, rules}
+use Rattle.std.proofs.Common.{◌-◌}
 use Rattle.batched.proofs.window.Given as goal
 
 abbrev pub invariant-loop-i : goal.invariant-loop-i

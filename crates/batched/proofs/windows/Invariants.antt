@@ -1,6 +1,6 @@
 -- `batched::windows` is safe and ends.
 -- Assumes nothing.
-use Rattle.std.proofs.Common.{◌-◌, rules}
+use Rattle.std.proofs.Common.{◌-◌}
 use Rattle.batched.proofs.windows.Given as goal
 
 abbrev pub invariant-loop-i : goal.invariant-loop-i

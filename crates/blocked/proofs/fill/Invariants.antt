@@ -1,6 +1,6 @@
 -- `blocked::fill` is safe and ends.
 -- Assumes nothing.
-use Rattle.std.proofs.Common.{◌-◌, rules}
+use Rattle.std.proofs.Common.{◌-◌}
 use Rattle.blocked.proofs.fill.Given as goal
 
 abbrev pub invariant-loop-i : goal.invariant-loop-i

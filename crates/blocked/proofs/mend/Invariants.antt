@@ -1,6 +1,6 @@
 -- `blocked::mend` is safe and ends.
 -- Assumes nothing.
-use Rattle.std.proofs.Common.{◌-◌, rules}
+use Rattle.std.proofs.Common.{◌-◌}
 use Rattle.blocked.proofs.mend.Given as goal
 
 abbrev pub invariant-loop-i : goal.invariant-loop-i

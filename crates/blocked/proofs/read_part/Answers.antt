@@ -1,6 +1,6 @@
 -- `blocked::read_part` is safe and ends: the parts that are lent are within the whole.
 -- Assumes nothing.
-use Rattle.std.proofs.Common.{sym, arith, length-take-le, rules}
+use Rattle.std.proofs.Common.{sym, arith, length-take-le}
 use Rattle.blocked.proofs.read_part.Goals as goal
 
 pub slice_bounds-read_blocks-end : goal.slice_bounds-read_blocks-end

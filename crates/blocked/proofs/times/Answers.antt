@@ -1,6 +1,6 @@
 -- `blocked::times` is safe and ends: a product of numbers below 2 ^ 8 and 2 ^ 32 is below 2 ^ 40.
 -- Assumes nothing.
-use Rattle.std.proofs.Common.{◌*◌, ◌%◌, ◌<◌, ◌≤◌, le_trans, mul-le-mul_right, mul-le-mul_left, arith, rules}
+use Rattle.std.proofs.Common.{◌*◌, ◌%◌, ◌<◌, ◌≤◌, mul-le-mul_right, arith}
 use Rattle.blocked.proofs.times.Goals as goal
 
 pub overflow_mul-result : goal.overflow_mul-result

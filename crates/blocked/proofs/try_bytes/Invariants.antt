@@ -1,6 +1,6 @@
 -- `blocked::try_bytes` is safe and ends.
 -- Assumes nothing.
-use Rattle.std.proofs.Common.{◌-◌, rules}
+use Rattle.std.proofs.Common.{◌-◌}
 use Rattle.blocked.proofs.try_bytes.Given as goal
 
 abbrev pub invariant-loop-i : goal.invariant-loop-i

@@ -1,6 +1,6 @@
 -- `blocked::try_counts` is safe and ends.
 -- Assumes nothing.
-use Rattle.std.proofs.Common.{◌-◌, rules}
+use Rattle.std.proofs.Common.{◌-◌}
 use Rattle.blocked.proofs.try_counts.Given as goal
 
 abbrev pub invariant-loop-n : goal.invariant-loop-n

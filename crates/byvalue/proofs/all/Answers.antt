@@ -1,4 +1,4 @@
-use Rattle.std.proofs.Common.{◌≡◌, ◌≤◌, length, sym, arith, length-take-le, rules}
+use Rattle.std.proofs.Common.{sym, arith, length-take-le}
 use Rattle.byvalue.proofs.all.Goals as goal
 
 pub slice_bounds-batch-end-then-waiting-ge32768 : goal.slice_bounds-batch-end-then-waiting-ge32768

@@ -1,6 +1,6 @@
 -- `byvalue::all` is safe and ends. The loop's invariant: the bytes that wait are within the buffer, and it keeps its length. The turns fall.
 -- Assumes nothing.
-use Rattle.std.proofs.Common.{◌≡◌, ◌≤◌, length, sym, arith, length-take-le, rules}
+use Rattle.std.proofs.Common.{◌≡◌, ◌≤◌, length}
 use Rattle.byvalue.proofs.all.Given as goal
 
 abbrev pub invariant-loop-turns : goal.invariant-loop-turns

@@ -1,6 +1,6 @@
 -- `byvalue::batch` is safe and ends.
 -- Assumes nothing.
-use Rattle.std.proofs.Common.{◌-◌, ◌≤◌, rules}
+use Rattle.std.proofs.Common.{◌-◌, ◌≤◌}
 use Rattle.byvalue.proofs.batch.Given as goal
 
 abbrev pub invariant-loop-i : goal.invariant-loop-i

@@ -1,6 +1,6 @@
 -- `byvalue::to_start` is safe and ends. The loop's invariant: the list keeps its length.
 -- Assumes nothing.
-use Rattle.std.proofs.Common.{◌≡◌, ◌-◌, ◌≤◌, length, rules}
+use Rattle.std.proofs.Common.{◌≡◌, ◌-◌, ◌≤◌, length}
 use Rattle.byvalue.proofs.to_start.Given as goal
 
 abbrev pub invariant-loop-i : goal.invariant-loop-i

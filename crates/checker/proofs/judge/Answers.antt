@@ -1,7 +1,6 @@
 -- `checker::judge` is safe and ends: what it shows is within the buffer.
 -- Assumes nothing.
 use mathlib.Core.Path.{sym}
-use borrow.Author.Rules.{rules}
 use lib.Seq.{length-take-le}
 use Rattle.checker.proofs.judge.Goals as goal
 

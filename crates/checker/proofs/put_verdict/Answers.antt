@@ -1,7 +1,6 @@
 -- `checker::put_verdict` meets its contract: from place 0 each call leads to a place within the buffer.
 -- Assumes nothing.
 use native.Mathlib.Omega.{arith}
-use borrow.Author.Rules.{rules}
 use Rattle.checker.proofs.put_verdict.Goals as goal
 
 pub returns-then-code-eq0 : goal.returns-then-code-eq0

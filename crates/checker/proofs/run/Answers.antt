@@ -1,7 +1,6 @@
 -- `checker::run` is safe and ends: what was loaded, and the entries read from it, are within the lent arrays.
 -- Assumes nothing.
 use mathlib.Core.Path.{sym}
-use borrow.Author.Rules.{rules}
 use lib.ListN.{length}
 use lib.Seq.{length-take-le}
 use Rattle.files.specs.Loads.{bytes_within}

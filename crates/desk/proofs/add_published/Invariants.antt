@@ -1,6 +1,6 @@
 -- `desk::add_published` is safe and ends.
 -- Assumes nothing.
-use Rattle.std.proofs.Common.{◌-◌, rules}
+use Rattle.std.proofs.Common.{◌-◌}
 use Rattle.desk.proofs.add_published.Given as goal
 
 abbrev pub invariant-loop-c : goal.invariant-loop-c

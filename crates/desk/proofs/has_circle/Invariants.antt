@@ -1,6 +1,6 @@
 -- `desk::has_circle` is safe and ends.
 -- Assumes nothing.
-use Rattle.std.proofs.Common.{◌-◌, rules}
+use Rattle.std.proofs.Common.{◌-◌}
 use Rattle.desk.proofs.has_circle.Given as goal
 
 abbrev pub invariant-loop-turn : goal.invariant-loop-turn

@@ -1,6 +1,6 @@
 -- `desk::mark_cells` is safe and ends.
 -- Assumes nothing.
-use Rattle.std.proofs.Common.{◌-◌, rules}
+use Rattle.std.proofs.Common.{◌-◌}
 use Rattle.desk.proofs.mark_cells.Given as goal
 
 abbrev pub invariant-loop-k : goal.invariant-loop-k

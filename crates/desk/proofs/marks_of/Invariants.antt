@@ -1,6 +1,6 @@
 -- `desk::marks_of` is safe and ends.
 -- Assumes nothing.
-use Rattle.std.proofs.Common.{◌-◌, rules}
+use Rattle.std.proofs.Common.{◌-◌}
 use Rattle.desk.proofs.marks_of.Given as goal
 
 abbrev pub invariant-loop-i : goal.invariant-loop-i

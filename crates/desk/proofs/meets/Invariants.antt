@@ -1,6 +1,6 @@
 -- `desk::meets` is safe and ends.
 -- Assumes nothing.
-use Rattle.std.proofs.Common.{◌-◌, rules}
+use Rattle.std.proofs.Common.{◌-◌}
 use Rattle.desk.proofs.meets.Given as goal
 
 abbrev pub invariant-loop-a : goal.invariant-loop-a

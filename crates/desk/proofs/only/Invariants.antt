@@ -1,6 +1,6 @@
 -- `desk::only` is safe and ends.
 -- Assumes nothing.
-use Rattle.std.proofs.Common.{◌-◌, rules}
+use Rattle.std.proofs.Common.{◌-◌}
 use Rattle.desk.proofs.only.Given as goal
 
 abbrev pub invariant-loop-i : goal.invariant-loop-i

@@ -1,6 +1,6 @@
 -- `desk::say_all` is safe and ends.
 -- Assumes nothing.
-use Rattle.std.proofs.Common.{◌-◌, length, rules}
+use Rattle.std.proofs.Common.{◌-◌, length}
 use Rattle.desk.proofs.say_all.Given as goal
 
 abbrev pub invariant-loop-i : goal.invariant-loop-i

@@ -1,6 +1,6 @@
 -- `desk::take_out` is safe and ends.
 -- Assumes nothing.
-use Rattle.std.proofs.Common.{◌-◌, rules}
+use Rattle.std.proofs.Common.{◌-◌}
 use Rattle.desk.proofs.take_out.Given as goal
 
 abbrev pub invariant-loop-i : goal.invariant-loop-i

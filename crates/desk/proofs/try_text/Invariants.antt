@@ -1,6 +1,6 @@
 -- `desk::try_text` is safe and ends.
 -- Assumes nothing.
-use Rattle.std.proofs.Common.{◌-◌, rules}
+use Rattle.std.proofs.Common.{◌-◌}
 use Rattle.desk.proofs.try_text.Given as goal
 
 abbrev pub invariant-loop-turn : goal.invariant-loop-turn

@@ -1,6 +1,6 @@
 -- `desk::waits` is safe and ends.
 -- Assumes nothing.
-use Rattle.std.proofs.Common.{◌-◌, rules}
+use Rattle.std.proofs.Common.{◌-◌}
 use Rattle.desk.proofs.waits.Given as goal
 
 abbrev pub invariant-loop-b : goal.invariant-loop-b

@@ -1,12 +1,9 @@
 -- `locked::to_start` meets its contract. The loop's invariant: the bytes passed are copied, and the list is as it was from the place on.
 -- Assumes nothing.
-use mathlib.Core.Path.{◌≡◌, refl, sym, ap, ◌∙◌}
-use mathlib.Core.List.{List, [], ◌∷◌, ◌++◌}
-use Prim.Native.Nat.{ℕ, suc, ◌+◌, ◌-◌, ◌≤◌, ◌<◌}
-use native.Mathlib.Nat.{add_comm}
-use native.Mathlib.Numerals.{add-one}
-use lib.ListN.{length, get_or, take, drop, set, length-set, length-drop}
-use lib.Seq.{take-suc, take-suc-set, get_or-drop, drop-set-lt, drop-drop}
+use mathlib.Core.Path.{◌≡◌}
+use mathlib.Core.List.{List}
+use Prim.Native.Nat.{ℕ, ◌-◌, ◌≤◌}
+use lib.ListN.{length, take, drop}
 use Rattle.locked.proofs.to_start.Given as goal
 
 -- the first i bytes are those from a place on, and from i on nothing moved

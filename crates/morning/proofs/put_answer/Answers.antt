@@ -1,7 +1,6 @@
 -- `morning::put_answer` meets its contract: from place 0 each call leads to a place within the buffer.
 -- Assumes nothing.
 use native.Mathlib.Omega.{arith}
-use borrow.Author.Rules.{rules}
 use Rattle.text.specs.LaysLaws.{lays_within}
 use Rattle.morning.proofs.put_answer.Goals as goal
 

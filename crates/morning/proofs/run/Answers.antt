@@ -1,7 +1,6 @@
 -- `morning::run` is safe and ends: what was loaded is within the lent array, and what is shown within the buffer.
 -- Assumes nothing.
 use mathlib.Core.Path.{sym}
-use borrow.Author.Rules.{rules}
 use lib.ListN.{length}
 use lib.Seq.{length-take-le}
 use Rattle.files.specs.Loads.{bytes_within}

@@ -1,6 +1,6 @@
 -- `noted::line_end` is safe and ends, and the end is within the input.
 -- Assumes nothing.
-use Rattle.std.proofs.Common.{◌-◌, ◌≤◌, length, rules}
+use Rattle.std.proofs.Common.{◌-◌, ◌≤◌, length}
 use Rattle.noted.proofs.line_end.Given as goal
 
 abbrev pub invariant-loop-end : goal.invariant-loop-end

@@ -1,6 +1,6 @@
 -- `noted::mark` is safe and ends.
 -- Assumes nothing.
-use Rattle.std.proofs.Common.{◌-◌, length, rules}
+use Rattle.std.proofs.Common.{◌-◌, length}
 use Rattle.noted.proofs.mark.Given as goal
 
 abbrev pub invariant-loop-i : goal.invariant-loop-i

@@ -1,6 +1,6 @@
 -- `noted::same` is safe and ends: past the test the lengths are equal.
 -- Assumes nothing.
-use Rattle.std.proofs.Common.{◌≡◌, ◌-◌, length, rules}
+use Rattle.std.proofs.Common.{◌≡◌, ◌-◌, length}
 use Rattle.noted.proofs.same.Given as goal
 
 abbrev pub invariant-loop-i : goal.invariant-loop-i

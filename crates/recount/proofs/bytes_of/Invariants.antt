@@ -1,6 +1,6 @@
 -- `recount::bytes_of` is safe and ends.
 -- Assumes nothing.
-use Rattle.std.proofs.Common.{◌-◌, rules}
+use Rattle.std.proofs.Common.{◌-◌}
 use Rattle.recount.proofs.bytes_of.Given as goal
 
 abbrev pub invariant-loop-i : goal.invariant-loop-i

@@ -1,6 +1,6 @@
 -- `recount::check_order` is safe and ends.
 -- Assumes nothing.
-use Rattle.std.proofs.Common.{◌-◌, rules}
+use Rattle.std.proofs.Common.{◌-◌}
 use Rattle.recount.proofs.check_order.Given as goal
 
 abbrev pub invariant-loop-k : goal.invariant-loop-k

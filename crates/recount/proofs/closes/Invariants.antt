@@ -1,6 +1,6 @@
 -- `recount::closes` is safe and ends.
 -- Assumes nothing.
-use Rattle.std.proofs.Common.{◌-◌, rules}
+use Rattle.std.proofs.Common.{◌-◌}
 use Rattle.recount.proofs.closes.Given as goal
 
 abbrev pub invariant-loop-turn : goal.invariant-loop-turn

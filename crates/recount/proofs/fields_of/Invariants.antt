@@ -1,6 +1,6 @@
 -- `recount::fields_of` is safe and ends.
 -- Assumes nothing.
-use Rattle.std.proofs.Common.{◌-◌, length, rules}
+use Rattle.std.proofs.Common.{◌-◌, length}
 use Rattle.recount.proofs.fields_of.Given as goal
 
 abbrev pub invariant-loop-i : goal.invariant-loop-i

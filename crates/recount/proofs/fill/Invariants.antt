@@ -1,6 +1,6 @@
 -- `recount::fill` is safe and ends.
 -- Assumes nothing.
-use Rattle.std.proofs.Common.{◌-◌, rules}
+use Rattle.std.proofs.Common.{◌-◌}
 use Rattle.recount.proofs.fill.Given as goal
 
 abbrev pub invariant-loop-i : goal.invariant-loop-i

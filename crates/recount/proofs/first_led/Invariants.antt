@@ -1,6 +1,6 @@
 -- `recount::first_led` is safe and ends.
 -- Assumes nothing.
-use Rattle.std.proofs.Common.{◌-◌, rules}
+use Rattle.std.proofs.Common.{◌-◌}
 use Rattle.recount.proofs.first_led.Given as goal
 
 abbrev pub invariant-loop-b : goal.invariant-loop-b

@@ -1,6 +1,6 @@
 -- `recount::laid` is safe and ends.
 -- Assumes nothing.
-use Rattle.std.proofs.Common.{◌-◌, rules}
+use Rattle.std.proofs.Common.{◌-◌}
 use Rattle.recount.proofs.laid.Given as goal
 
 abbrev pub invariant-loop-m : goal.invariant-loop-m

@@ -1,6 +1,6 @@
 -- `recount::next_ready` is safe and ends.
 -- Assumes nothing.
-use Rattle.std.proofs.Common.{◌-◌, rules}
+use Rattle.std.proofs.Common.{◌-◌}
 use Rattle.recount.proofs.next_ready.Given as goal
 
 abbrev pub invariant-loop-i : goal.invariant-loop-i

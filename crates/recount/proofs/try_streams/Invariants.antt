@@ -1,6 +1,6 @@
 -- `recount::try_streams` is safe and ends.
 -- Assumes nothing.
-use Rattle.std.proofs.Common.{◌-◌, rules}
+use Rattle.std.proofs.Common.{◌-◌}
 use Rattle.recount.proofs.try_streams.Given as goal
 
 abbrev pub invariant-loop-i : goal.invariant-loop-i

@@ -1,6 +1,5 @@
 -- `rooms::all` is safe and ends: the turns fall.
 -- Assumes nothing.
-use Rattle.std.proofs.Common.{rules}
 use Rattle.rooms.proofs.all.Given as goal
 
 abbrev pub invariant-loop-turns : goal.invariant-loop-turns

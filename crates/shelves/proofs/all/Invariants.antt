@@ -1,6 +1,6 @@
 -- `shelves::all` is safe and ends.
 -- Assumes nothing.
-use Rattle.std.proofs.Common.{◌-◌, rules}
+use Rattle.std.proofs.Common.{◌-◌}
 use Rattle.shelves.proofs.all.Given as goal
 
 abbrev pub invariant-loop-line : goal.invariant-loop-line

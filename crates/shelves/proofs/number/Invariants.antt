@@ -1,6 +1,6 @@
 -- `shelves::number` is safe and ends.
 -- Assumes nothing.
-use Rattle.std.proofs.Common.{◌-◌, rules}
+use Rattle.std.proofs.Common.{◌-◌}
 use Rattle.shelves.proofs.number.Given as goal
 
 abbrev pub invariant-loop-i : goal.invariant-loop-i

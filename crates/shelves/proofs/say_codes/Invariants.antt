@@ -1,6 +1,6 @@
 -- `shelves::say_codes` is safe and ends.
 -- Assumes nothing.
-use Rattle.std.proofs.Common.{◌-◌, rules}
+use Rattle.std.proofs.Common.{◌-◌}
 use Rattle.shelves.proofs.say_codes.Given as goal
 
 abbrev pub invariant-loop-code : goal.invariant-loop-code

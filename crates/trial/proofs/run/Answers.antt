@@ -1,15 +1,13 @@
-use mathlib.Core.Path.{◌≡◌, sym, ◌∙◌, ap}
+use mathlib.Core.Path.{sym, ◌∙◌}
 use Prim.Native.Nat.{ℕ, ◌+◌, ◌-◌, ◌/◌, ◌%◌, ◌^◌, ◌≤◌, ◌<◌}
 use mir.Syntax.{w64}
 use mir.Val.{Fits}
 use native.Mathlib.Omega.{arith}
-use borrow.Author.Rules.{rules}
-use borrow.Author.Tests.{ltb-true, not-false}
+use borrow.Author.Tests.{not-false}
 use Rattle.lines.specs.Writes.{most_place, roomy_place}
 use lib.ListN.{length}
 use lib.Seq.{length-take-le}
 use Rattle.trial.proofs.run.Goals as goal
-use mathlib.Core.Bool.{not}
 
 -- the place past the records fits
 counts : (p w : ℕ) → p < most_place → w < 2 ^ 64 → Fits w64 (p + (w - w % 8) / 8)

@@ -1,13 +1,8 @@
 -- `trial::run` meets its contract: it ends, and every access is in range. The loop's invariant: the bytes that wait are within the buffer.
 -- Assumes nothing.
-use mathlib.Core.Path.{◌≡◌, sym, ◌∙◌}
-use Prim.Native.Nat.{ℕ, ◌+◌, ◌-◌, ◌/◌, ◌%◌, ◌^◌, ◌≤◌, ◌<◌}
-use mir.Syntax.{w64}
-use mir.Val.{Fits}
-use borrow.Author.Tests.{ltb-true, not-false}
-use Rattle.lines.specs.Writes.{most_place, roomy_place}
+use mathlib.Core.Path.{◌≡◌}
+use Prim.Native.Nat.{◌^◌, ◌≤◌, ◌<◌}
 use lib.ListN.{length}
-use lib.Seq.{length-take-le}
 use Rattle.trial.proofs.run.Given as goal
 
 abbrev pub invariant-loop-more : goal.invariant-loop-more

@@ -1,6 +1,6 @@
 -- `tried::all_lines` is safe and ends.
 -- Assumes nothing.
-use Rattle.std.proofs.Common.{◌-◌, length, rules}
+use Rattle.std.proofs.Common.{◌-◌, length}
 use Rattle.tried.proofs.all_lines.Given as goal
 
 abbrev pub invariant-loop-at : goal.invariant-loop-at

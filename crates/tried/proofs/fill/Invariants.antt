@@ -1,6 +1,6 @@
 -- `tried::fill` is safe and ends.
 -- Assumes nothing.
-use Rattle.std.proofs.Common.{◌-◌, rules}
+use Rattle.std.proofs.Common.{◌-◌}
 use Rattle.tried.proofs.fill.Given as goal
 
 abbrev pub invariant-loop-i : goal.invariant-loop-i

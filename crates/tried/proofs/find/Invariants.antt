@@ -1,6 +1,6 @@
 -- `tried::find` is safe and ends.
 -- Assumes nothing.
-use Rattle.std.proofs.Common.{◌-◌, length, rules}
+use Rattle.std.proofs.Common.{◌-◌, length}
 use Rattle.tried.proofs.find.Given as goal
 
 abbrev pub invariant-loop-end : goal.invariant-loop-end

@@ -1,6 +1,6 @@
 -- `tried::jobs_of` is safe and ends.
 -- Assumes nothing.
-use Rattle.std.proofs.Common.{◌-◌, ◌≤◌, rules}
+use Rattle.std.proofs.Common.{◌-◌, ◌≤◌}
 use Rattle.tried.proofs.jobs_of.Given as goal
 
 abbrev pub invariant-loop-turns : goal.invariant-loop-turns

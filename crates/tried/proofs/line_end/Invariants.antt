@@ -1,6 +1,6 @@
 -- `tried::line_end` is safe and ends, and the end is within the text.
 -- Assumes nothing.
-use Rattle.std.proofs.Common.{◌-◌, ◌≤◌, length, rules}
+use Rattle.std.proofs.Common.{◌-◌, ◌≤◌, length}
 use Rattle.tried.proofs.line_end.Given as goal
 
 abbrev pub invariant-loop-end : goal.invariant-loop-end

@@ -1,6 +1,6 @@
 -- `tried::put_cells` is safe and ends.
 -- Assumes nothing.
-use Rattle.std.proofs.Common.{◌-◌, rules}
+use Rattle.std.proofs.Common.{◌-◌}
 use Rattle.tried.proofs.put_cells.Given as goal
 
 abbrev pub invariant-loop-i : goal.invariant-loop-i

@@ -1,6 +1,6 @@
 -- `tried::same_list` is safe and ends.
 -- Assumes nothing.
-use Rattle.std.proofs.Common.{◌-◌, ◌≤◌, rules}
+use Rattle.std.proofs.Common.{◌-◌, ◌≤◌}
 use Rattle.tried.proofs.same_list.Given as goal
 
 abbrev pub invariant-loop-i : goal.invariant-loop-i

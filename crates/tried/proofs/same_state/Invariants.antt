@@ -1,6 +1,6 @@
 -- `tried::same_state` is safe and ends.
 -- Assumes nothing.
-use Rattle.std.proofs.Common.{◌-◌, ◌≤◌, rules}
+use Rattle.std.proofs.Common.{◌-◌, ◌≤◌}
 use Rattle.tried.proofs.same_state.Given as goal
 
 abbrev pub invariant-loop-i : goal.invariant-loop-i

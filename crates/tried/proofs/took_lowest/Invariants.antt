@@ -1,6 +1,6 @@
 -- `tried::took_lowest` is safe and ends.
 -- Assumes nothing.
-use Rattle.std.proofs.Common.{◌-◌, ◌≤◌, rules}
+use Rattle.std.proofs.Common.{◌-◌, ◌≤◌}
 use Rattle.tried.proofs.took_lowest.Given as goal
 
 abbrev pub invariant-loop-slot : goal.invariant-loop-slot
