@@ -10,8 +10,8 @@ use lib.ListN.{length, get_or, take, drop, length-append, length-drop}
 use lib.Seq.{get_or-take, get_or-drop, take-take, drop-drop}
 use Rattle.graph.specs.Decide.{lt_test, answer}
 use Rattle.blocks.specs.Blocks.{Fault, block_at, count_in, lowest_fault, records_in, first_records, log_in, refused, filled, judged, read}
-use Rattle.blocks.specs.SoundLaws.{count_most}
-use Rattle.blocks.specs.RunLaws.{sound, record_size, sizes, fills, fills_not, read_on}
+use Rattle.blocks.proofs.SoundLaws.{count_most}
+use Rattle.blocks.proofs.RunLaws.{sound, record_size, sizes, fills, fills_not, read_on}
 use Rattle.sums.specs.Sums.{with_run}
 use Rattle.blockreader.specs.Answers.{fault_of, Unfaulted}
 use Rattle.blockreader.specs.declared.Found.{Found}

@@ -10,8 +10,8 @@ use lib.Seq.{take_all}
 use Rattle.graph.specs.Decide.{le_test, answer}
 use Rattle.history.specs.Formats.{bytes_of}
 use Rattle.blocks.specs.Blocks.{sums, front, block, run_of, first_blocks, block_count, blocks_of, write}
-use Rattle.blocks.specs.SoundLaws.{block_length}
-use Rattle.blocks.specs.RunLaws.{run_fits, blocks_length, blocks_of_length, fills, write_on}
+use Rattle.blocks.proofs.SoundLaws.{block_length}
+use Rattle.blocks.proofs.RunLaws.{run_fits, blocks_length, blocks_of_length, fills, write_on}
 use Rattle.blocks.specs.Answers.{Log}
 use Rattle.sums.specs.Sums.{with_run}
 use Rattle.sums.specs.ByteLaws.{Put, puts, put_next, done_put}

@@ -13,7 +13,7 @@ use Rattle.text.specs.Puts.{lays_puts}
 use Rattle.history.specs.Events.{History}
 use Rattle.verdicts.specs.Logs.{Reading, faulty, events, read_log}
 use Rattle.blocks.specs.Blocks.{Filled, refused, filled}
-use Rattle.blocks.specs.RunLaws.{fills, fills_not}
+use Rattle.blocks.proofs.RunLaws.{fills, fills_not}
 use Rattle.notation.specs.Notation.{text_of, without_abandoned, NoAdd}
 use Rattle.notation.specs.Answers.{before_adds, exported, export_of, export}
 use Rattle.notation.specs.FirstAddLaws.{Found, none, first, found}

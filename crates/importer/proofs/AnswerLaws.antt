@@ -17,7 +17,7 @@ use Rattle.verdicts_laws.specs.LogLaws.{log_length}
 use Rattle.text.specs.Lays.{Lays}
 use Rattle.text.specs.LaysLaws.{lays_room}
 use Rattle.blocks.specs.Blocks.{refused}
-use Rattle.blocks.specs.RunLaws.{fills, fills_not}
+use Rattle.blocks.proofs.RunLaws.{fills, fills_not}
 use Rattle.notation.specs.Parse.{Stand, whole_at, event_at, Parsed, wrong, says, parse_end, parse}
 use Rattle.notation.specs.Answers.{imported, import_of, import}
 use Rattle.importer.specs.Importer.{answered, Given}

@@ -14,7 +14,7 @@ use Rattle.verdicts_laws.specs.LogLaws.{Fault, of_length, of_record, faults, rea
 use Rattle.verdicts.specs.Cases.{bytes_above}
 use Rattle.verdicts_laws.specs.SizeLaws.{log_size, fault_code, fault_known}
 use Rattle.blocks.specs.Blocks.{Filled, refused, done, filled}
-use Rattle.blocks.specs.RunLaws.{fills, fills_not}
+use Rattle.blocks.proofs.RunLaws.{fills, fills_not}
 use Rattle.notation.specs.Notation.{on_cell, symbol, text_of, Says, Form, Wrong, no_such_byte, stops_short, without_abandoned, NoAdd, FirstAdd}
 use Rattle.notation.specs.Parse.{Parsed, wrong, says, parse, parse_end}
 use Rattle.notation.specs.Answers.{imported, import_of, import, before_adds, exported, export_of, export, written, Bytes, Imported, Exported}

@@ -5,7 +5,7 @@ use native.Mathlib.Omega.{arith}
 use lib.ListN.{take, drop, length-drop}
 use lib.Seq.{length-take-le}
 use Rattle.blocks.specs.Blocks.{Fault, fault, fault_in, block_at, or_else, lowest_fault}
-use Rattle.blocks.specs.RunLaws.{lowest_found}
+use Rattle.blocks.proofs.RunLaws.{lowest_found}
 use Rattle.blockreader.specs.Answers.{fault_of}
 use Rattle.blockreader.proofs.lowest.Goals as goal
 

@@ -6,7 +6,7 @@ use Prim.Native.Nat.{◌/◌}
 use native.Mathlib.Omega.{arith}
 use lib.ListN.{length}
 use Rattle.blocks.specs.Blocks.{fault, lowest_fault}
-use Rattle.blocks.specs.RunLaws.{read_off}
+use Rattle.blocks.proofs.RunLaws.{read_off}
 use Rattle.blockreader.specs.Answers.{fault_of, Unfaulted}
 use Rattle.blockreader.proofs.ReadLaws.{read_fault, unfaulted, read_short, read_done}
 use Rattle.blockreader.proofs.read_blocks.Goals as goal

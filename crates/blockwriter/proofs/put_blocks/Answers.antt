@@ -4,8 +4,8 @@ use Prim.Native.Nat.{ℕ, ◌+◌, ◌*◌, ◌-◌}
 use lib.ListN.{length, drop, length-drop}
 use lib.Seq.{length-take-le}
 use Rattle.blocks.specs.Blocks.{block, run_of, first_blocks}
-use Rattle.blocks.specs.SoundLaws.{block_length}
-use Rattle.blocks.specs.RunLaws.{run_fits}
+use Rattle.blocks.proofs.SoundLaws.{block_length}
+use Rattle.blocks.proofs.RunLaws.{run_fits}
 use Rattle.sums.specs.Sums.{with_run}
 use Rattle.sums.specs.ByteLaws.{puts, part_put}
 use Rattle.blockwriter.proofs.WriteLaws.{run_cut, blocks_turn}

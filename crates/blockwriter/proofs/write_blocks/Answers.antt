@@ -6,7 +6,7 @@ use native.Mathlib.Omega.{arith}
 use lib.ListN.{length}
 use Rattle.blocks.specs.Blocks.{blocks_of}
 use Rattle.blocks.specs.Answers.{Log}
-use Rattle.blocks.specs.RunLaws.{blocks_of_length, fills_not, write_off, write_on}
+use Rattle.blocks.proofs.RunLaws.{blocks_of_length, fills_not, write_off, write_on}
 use Rattle.blockwriter.proofs.WriteLaws.{write_done}
 use Rattle.blockwriter.proofs.write_blocks.Goals as goal
 

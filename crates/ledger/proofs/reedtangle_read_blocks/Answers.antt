@@ -3,7 +3,7 @@ use mathlib.Core.Path.{◌≡◌, ap, ◌∙◌}
 use native.Mathlib.Omega.{arith}
 use borrow.Author.Rules.{rules}
 use Rattle.blocks.specs.Blocks.{Filled, read}
-use Rattle.blocks.specs.Promises.{read_small}
+use Rattle.blocks.proofs.Promises.{read_small}
 use Rattle.blockreader.proofs.AnswerLaws.{read_as}
 use Rattle.ledger.proofs.reedtangle_read_blocks.Goals as goal
 

@@ -3,7 +3,7 @@ use mathlib.Core.Path.{◌≡◌, ap, ◌∙◌}
 use native.Mathlib.Omega.{arith}
 use borrow.Author.Rules.{rules}
 use Rattle.blocks.specs.Blocks.{Filled, write}
-use Rattle.blocks.specs.Promises.{write_small}
+use Rattle.blocks.proofs.Promises.{write_small}
 use Rattle.blockwriter.proofs.AnswerLaws.{written_as}
 use Rattle.ledger.proofs.reedtangle_write_blocks.Goals as goal
 

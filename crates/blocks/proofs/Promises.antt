@@ -8,8 +8,8 @@ use Rattle.std.proofs.Common.{sym, ap, subst, ◌∙◌, ⊎_elim, arith, length
 use Rattle.std.proofs.Math.Seq.{take-append_seam}
 use Rattle.blocks.specs.Blocks.{blocks_of, Filled, refused, done, write, read}
 use Rattle.blocks.specs.Answers.{Log, Wrote, Answered}
-use Rattle.blocks.specs.RunLaws.{accepted_run, blocks_of_length, fills, write_right, read_right, read_blocks}
-use Rattle.blocks.specs.DamageLaws.{Word, word_changed}
+use Rattle.blocks.proofs.RunLaws.{accepted_run, blocks_of_length, fills, write_right, read_right, read_blocks}
+use Rattle.blocks.proofs.DamageLaws.{Word, word_changed}
 
 -- ---- what an answer means, code by code
 

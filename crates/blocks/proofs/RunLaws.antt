@@ -14,7 +14,7 @@ use Rattle.std.proofs.Math.Seq.{take_all}
 use Rattle.graph.specs.Decide.{Decides, or_test, not_test, eq_test, lt_test, answer, by_test, test_true, test_false}
 use Rattle.blocks.specs.Blocks.{block, run_of, first_blocks, block_count, blocks_of, count_in, sums_wrong, form_wrong, Fault, fault, fault_in, block_at, or_else, lowest_fault, records_in, first_records, log_in, Filled, refused, done, filled, write, judged, read}
 use Rattle.blocks.specs.Answers.{Log, Lowest, Wrote, written, Answered, bad_block, reads}
-use Rattle.blocks.specs.SoundLaws.{part_left, room, room_least, room_other, Count, count_most, count_some, Sound, sound_of, fault_none, block_length, block_records, block_sound, sound_block, sound_size}
+use Rattle.blocks.proofs.SoundLaws.{part_left, room, room_least, room_other, Count, count_most, count_some, Sound, sound_of, fault_none, block_length, block_records, block_sound, sound_block, sound_size}
 
 -- ---- the lowest fault
 

@@ -10,8 +10,8 @@ use Rattle.graph.specs.Decide.{lt_test, answer}
 use Rattle.history.specs.Formats.{bytes_of}
 use Rattle.blocks.specs.Blocks.{words, total, sums, Fault, fault, fault_in, block_at, lowest_fault, refused, judged, read}
 use Rattle.blocks.specs.WordLaws.{words_append, total_append, bytes_of_word, word_of_bytes}
-use Rattle.blocks.specs.SoundLaws.{part_left, sound_of, wrong_sums}
-use Rattle.blocks.specs.RunLaws.{each_none, lowest_none, lowest_found, read_on, accepted_sound}
+use Rattle.blocks.proofs.SoundLaws.{part_left, sound_of, wrong_sums}
+use Rattle.blocks.proofs.RunLaws.{each_none, lowest_none, lowest_found, read_on, accepted_sound}
 
 -- four bytes
 pub data Word : List ℕ → Type 0 where

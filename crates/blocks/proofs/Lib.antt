@@ -1,0 +1,4 @@
+pub mod SoundLaws
+pub mod RunLaws
+pub mod DamageLaws
+pub mod Promises
