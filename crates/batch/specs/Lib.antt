@@ -1,6 +1,3 @@
 pub mod Batch
 pub mod Leaves
 pub mod Cases
-pub mod Laws
-pub mod Host
-pub mod Promises

@@ -1,14 +1,13 @@
 -- `batch::step_item` meets its contract: by that of the arbiter's step where the kind is 2, 3 or 7, and elsewhere nothing moves. Assumes nothing.
-use mathlib.Core.Logic.{inr, ⊎_elim}
+use mathlib.Core.Logic.{⊎_elim}
 use native.Mathlib.Omega.{arith}
 use borrow.Author.Rules.{rules}
 use lib.ListN.{replicate}
 use Rattle.history.specs.Formats.{request_of}
 use Rattle.slots.specs.Lent.{lent}
-use Rattle.batch.specs.Laws.{Taken}
-use Rattle.batch.proofs.RunLaws.{two_or_three, takes_step, takes_none}
+use Rattle.batch.proofs.Laws.{Taken}
+use Rattle.batch.proofs.RunLaws.{takes_step, takes_none}
 use Rattle.batch.proofs.step_item.Goals as goal
-use Rattle.batch.proofs.step_item.Goals.{in-7-1, in_default+else-kind-lt2+then-kind-lt4}
 
 pub returns-in_default : goal.returns-in_default
 unfolding request_of
@@ -20,5 +19,5 @@ returns-in_default-2 c = λ ports. takes_none (request_of c.args.item) (⊎_elim
 
 pub returns-in-2 : goal.returns-in-2
 returns-in-2 c =
-    let is_taken : Taken (request_of c.args.item) = unfold request_of in elim c.in-2-1.branch [ in-7-1 w ↦ inr (inr (search rules)) | in_default+else-kind-lt2+then-kind-lt4 w ↦ two_or_three (request_of c.args.item) (search rules) (search rules) ] in
+    let is_taken : Taken (request_of c.args.item) = unfold request_of in (search rules) in
     λ ports. takes_step {g = lent c.args.next c.args.free c.args.numbers.now c.args.leads.now c.args.sets.now (replicate 3 0)} ports (request_of c.args.item) is_taken c.step_in_place-m.ensures c.code.ensures

@@ -11,7 +11,7 @@ use Rattle.history.specs.Replies.{Request, Reply, Book, blank_book, reply, book_
 use Rattle.history.specs.Replies as full
 use Rattle.held.specs.Held.{Held, fresh_held, answer_to, after, after_all}
 use Rattle.batch.specs.Batch.{Verdict, batch, batch_leaves, full_batch, full_leaves, book_leaves}
-use Rattle.batch.specs.Laws.{after_append, history_append, book_append, answers_on, exactly, hands_on}
+use Rattle.batch.proofs.Laws.{after_append, history_append, book_append, answers_on, exactly, hands_on}
 
 pub data Call : Type 0 where
   one : Request → Call
