@@ -1,7 +1,7 @@
 -- What holds of batches: what each verdict means (`batch_right`), when it is a grant (`grants_exactly`) and what is left then, that a place is small, and that a batch from a
 -- state that requests gave gets what the full history gives it (`exactly`).
 -- Assumes nothing.
-use Rattle.std.specs.Prelude.{◌≡◌, refl, ◌⊎◌, ◌↔◌, Bool, ℕ, suc, ◌+◌, ◌*◌, ◌/◌, ◌%◌, ◌≤◌, ◌<◌, length, drop}
+use Rattle.std.specs.Prelude.{◌≡◌, refl, ◌↔◌, Bool, ℕ, suc, ◌+◌, ◌*◌, ◌/◌, ◌%◌, ◌≤◌, ◌<◌, length, drop}
 use Rattle.std.proofs.Math.Path.{sym, ap}
 use Rattle.std.proofs.Common.{ap₂, ◌∙◌, subst, inr, add-zero, arith, drop_at}
 use Rattle.std.proofs.Math.Bool.{true, false, cond}
@@ -18,6 +18,7 @@ use Rattle.held_laws.specs.HeldExact.{held_exact}
 use Rattle.history_laws.specs.RecordLaws.{records_length}
 use Rattle.batch.specs.Batch.{Verdict, verdict, taken, item_code, codes, first_refused, ill_sized, judged, batch, batch_leaves, full_batch, full_leaves, book_leaves, packed}
 use Rattle.batch.specs.Cases.{bytes}
+use Rattle.batch.specs.Laws.{AllGranted, FirstRefused, IllSized, Means, Taken, all_granted, gets, one_refused, wrong_size}
 
 -- ---- items in bytes
 
@@ -27,6 +28,8 @@ two_bytes c q = omega arith
 four_bytes : (j : ℕ) → j < numbers → j % 256 + j / 256 % 256 * 256 + j / 256 / 256 % 256 * 65536 + j / 256 / 256 / 256 % 256 * 16777216 ≡ j
 four_bytes j q = omega arith
 
+-- ---- the two tests of a batch
+
 -- requests whose cells and jobs fit their bytes, put down one after the other, are the items that are read
 pub items_read : (rs : List Request) → ((r : Request) → r ∈ rs → (r.cell < 65536) × (r.job < numbers)) → records (bytes rs) ≡ rs
 items_read [] f = refl
@@ -34,18 +37,9 @@ items_read (r ∷ rs) f =
     ap₂ (λ (c j : ℕ). record { kind = r.kind; byte1 = r.byte1; cell = c; job = j } ∷ records (bytes rs)) (two_bytes r.cell (f r here).0) (four_bytes r.job (f r here).1)
     ∙ ap (λ (l : List Request). r ∷ l) (items_read rs (λ q m. f q (later m)))
 
--- ---- the two tests of a batch
-
--- the bytes are not whole requests, or more than 64
-abbrev pub IllSized : List ℕ → Type 0
-IllSized bytes = (length bytes % 8 ≡ 0 → ⊥) ⊎ (512 < length bytes)
-
 pub ill_test : (bytes : List ℕ) → Decides (ill_sized bytes) (IllSized bytes)
 unfolding ill_sized
 ill_test bytes = or_test (not_test (eq_test (length bytes % 8) 0)) (lt_test 512 (length bytes))
-
-abbrev pub Taken : Request → Type 0
-Taken r = (r.kind ≡ 2) ⊎ ((r.kind ≡ 3) ⊎ (r.kind ≡ 7))
 
 pub taken_test : (r : Request) → Decides (taken r.kind) (Taken r)
 unfolding taken
@@ -57,36 +51,11 @@ unfolding item_code
 item_zero r a =
     by_test (λ b. cond b a.code 1 ≡ 0 → Taken r × (a.code ≡ 0)) (taken_test r) (λ t z. (t, z)) (λ f z. absurd (let y : ◌≡◌ {A = ℕ} 1 0 = z in omega arith))
 
+-- ---- what each verdict means
+
 zero_item : (r : Request) (a : Reply) → Taken r → a.code ≡ 0 → item_code r a ≡ 0
 unfolding item_code
 zero_item r a t z = ap (λ (b : Bool). cond b a.code 1) (test_true (taken_test r) t) ∙ z
-
--- ---- what each verdict means
-
--- one by one every item would be granted, and every kind is taken
-pub record AllGranted (h : Held) (items : List Request) : Type 0 where
-  pub kinds : (r : Request) → r ∈ items → Taken r
-  pub codes : (a : Reply) → a ∈ answers h items → a.code ≡ 0
-
--- the first item that would be refused: all before it would be granted, and on the state that they leave it gets the code
-pub record FirstRefused (h : Held) (items : List Request) (c p : ℕ) : Type 0 where
-  pub before : List Request
-  pub item : Request
-  pub rest : List Request
-  pub split : items ≡ before ++ item ∷ rest
-  pub granted : AllGranted h before
-  pub place : p ≡ length before
-  pub code : c ≡ item_code item (answer_to (after_all h before) item)
-  pub refused : c ≡ 0 → ⊥
-
-pub data Means (h : Held) (bytes : List ℕ) : Verdict → Type 0 where
-  wrong_size : IllSized bytes → Means h bytes (verdict 25 0)
-  one_refused : {c p : ℕ} → (IllSized bytes → ⊥) → FirstRefused h (records bytes) c p → Means h bytes (verdict c p)
-  all_granted : (IllSized bytes → ⊥) → AllGranted h (records bytes) → Means h bytes (verdict 0 (length (records bytes)))
-
--- what the items get one by one, their places counted from n
-abbrev pub gets : ℕ → Held → List Request → Verdict
-gets n h items = first_refused n (codes items (answers h items))
 
 data Found (h : Held) (items : List Request) (n : ℕ) : Verdict → Type 0 where
   none : {p : ℕ} → p ≡ n + length items → AllGranted h items → Found h items n (verdict 0 p)
@@ -121,6 +90,8 @@ found h (r ∷ rs) n =
     (λ z. found_more z (found (after h r) rs (suc n)))
     (λ f. one (sym (add-zero n)) (record { before = []; item = r; rest = rs; split = refl; granted = all_none; place = refl; code = refl; refused = f }))
 
+-- ---- a grant, and a refusal
+
 pub batch_right : (h : Held) (bytes : List ℕ) → Means h bytes (batch h bytes)
 unfolding batch judged
 batch_right h bytes =
@@ -129,8 +100,6 @@ batch_right h bytes =
     sized : (IllSized bytes → ⊥) → {v : Verdict} → Found h (records bytes) 0 v → Means h bytes v
     sized f (none {p = p} e g) = subst (λ (n : ℕ). Means h bytes (verdict 0 n)) (let s : length (records bytes) ≡ p = omega arith in s) (all_granted f g)
     sized f (one {c = c} {p = p} {q = q} e g) = subst (λ (n : ℕ). Means h bytes (verdict c n)) (let s : p ≡ q = omega arith in s) (one_refused f g)
-
--- ---- a grant, and a refusal
 
 -- where all would be granted, all are
 all_get : (h : Held) (items : List Request) (n : ℕ) → AllGranted h items → (gets n h items).code ≡ 0
@@ -182,11 +151,11 @@ pub grant_leaves : (h : Held) (bytes : List ℕ) → (batch h bytes).code ≡ 0 
 unfolding batch_leaves
 grant_leaves h bytes z = ap (λ (c : ℕ). cond (eqb c 0) (after_all h (records bytes)) h) z
 
+-- ---- places are small
+
 pub refusal_leaves : (h : Held) (bytes : List ℕ) → ((batch h bytes).code ≡ 0 → ⊥) → batch_leaves h bytes ≡ h
 unfolding batch_leaves
 refusal_leaves h bytes f = ap (λ (b : Bool). cond b (after_all h (records bytes)) h) (test_false (eq_test (batch h bytes).code 0) f)
-
--- ---- places are small
 
 codes_length : (rs : List Request) (l : List Reply) → length (codes rs l) ≤ length rs
 codes_length [] l = omega arith
@@ -213,14 +182,14 @@ pub judged_small : (h : Held) (bytes : List ℕ) → (batch h bytes).place ≤ 6
 unfolding batch
 judged_small h bytes = place_small bytes (answers h (records bytes))
 
+-- ---- the full history
+
 pub judged_apart : (h h' : Held) (bytes bytes' : List ℕ) → packed (batch h bytes) ≡ packed (batch h' bytes') → batch h bytes ≡ batch h' bytes'
 unfolding packed
 judged_apart h h' bytes bytes' e =
     let p = judged_small h bytes in
     let q = judged_small h' bytes' in
     ap₂ verdict (let s : (batch h bytes).code ≡ (batch h' bytes').code = omega arith in s) (let s : (batch h bytes).place ≡ (batch h' bytes').place = omega arith in s)
-
--- ---- the full history
 
 -- one request after another, from a state or a history, in two parts
 answers_append : (h : Held) (x y : List Request) → answers h (x ++ y) ≡ answers h x ++ answers (after_all h x) y

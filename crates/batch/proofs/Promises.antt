@@ -10,8 +10,10 @@ use Rattle.history.specs.Replies.{numbers, Request, blank_book, history_of, book
 use Rattle.held.specs.Held.{Held, fresh_held, after_all}
 use Rattle.batch.specs.Batch.{verdict, batch, batch_leaves, full_batch, full_leaves, book_leaves, packed}
 use Rattle.batch.specs.Cases.{bytes, Tried, expected, outcome, table, batch_cases}
-use Rattle.batch.proofs.Host.{Call, all_said, all_fully_said, calls_alike}
-use Rattle.batch.proofs.Laws.{items_read, IllSized, AllGranted, FirstRefused, Means, batch_right, grants_exactly, grant_counts, grant_leaves, ill_judged, refused_first, refusal_leaves, empty_judged, exactly, hands_on, judged_small, judged_apart}
+use Rattle.batch.specs.Host.{Call, all_said, all_fully_said}
+use Rattle.batch.proofs.Host.{calls_alike}
+use Rattle.batch.specs.Laws.{IllSized, AllGranted, FirstRefused, Means}
+use Rattle.batch.proofs.Laws.{items_read, batch_right, grants_exactly, grant_counts, grant_leaves, ill_judged, refused_first, refusal_leaves, empty_judged, exactly, hands_on, judged_small, judged_apart}
 
 -- ---- what a batch gets
 

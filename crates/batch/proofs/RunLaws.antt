@@ -26,7 +26,8 @@ use Rattle.history_laws.specs.RecordLaws.{record_there, record_none, drop_record
 use Rattle.slots.specs.Lent.{lent, numbered, Steps}
 use Rattle.slots.specs.declared.Moved.{Moved}
 use Rattle.batch.specs.Batch.{Verdict, verdict, taken, item_code, judged, batch, batch_leaves, packed}
-use Rattle.batch.proofs.Laws.{Taken, taken_test, gets, IllSized, ill_test, ill_judged, judged_small}
+use Rattle.batch.specs.Laws.{Taken, gets, IllSized}
+use Rattle.batch.proofs.Laws.{taken_test, ill_test, ill_judged, judged_small}
 use Rattle.batch.specs.Leaves.{Refused, Takes, Runs, Batches}
 use Rattle.batch.specs.Leaves as leaves
 use Rattle.batch.specs.declared.Batched.{Batched}

@@ -1,3 +1,5 @@
 pub mod Batch
 pub mod Leaves
 pub mod Cases
+pub mod Laws
+pub mod Host

@@ -13,7 +13,8 @@ use lib.Seq.{take_all, get_or-take, get_or-drop, drop-drop}
 use Rattle.graph.specs.Decide.{every_of, test_true, true_is}
 use Rattle.history.specs.Formats.{bytes_of}
 use Rattle.blocks.specs.Blocks.{sums, count_in, count_wrong, fault, fault_in}
-use Rattle.blocks.proofs.SoundLaws.{zeros_test, Count, count_holds, count_shows, count_most, fault_none, wrong_sums, wrong_form}
+use Rattle.blocks.specs.SoundLaws.{Count}
+use Rattle.blocks.proofs.SoundLaws.{zeros_test, count_holds, count_shows, count_most, fault_none, wrong_sums, wrong_form}
 use Rattle.blocks.specs.WordLaws.{word_of_bytes}
 use Rattle.sums.specs.ByteLaws.{four_out, same_number, drop_take}
 

@@ -1,7 +1,7 @@
 -- Damage: an accepted run of blocks in which one four-byte word is changed gets 22, at the block of that word (`word_changed`). The first sum shows it, or the sum that was
 -- changed itself.
 -- Assumes nothing.
-use Rattle.std.specs.Prelude.{◌≡◌, refl, List, [], ◌∷◌, ◌++◌, ℕ, ◌+◌, ◌-◌, ◌*◌, ◌/◌, ◌%◌, ◌≤◌, ◌<◌, length, get_or, take, drop}
+use Rattle.std.specs.Prelude.{◌≡◌, refl, List, ◌++◌, ℕ, ◌+◌, ◌-◌, ◌*◌, ◌/◌, ◌%◌, ◌≤◌, ◌<◌, length, get_or, take, drop}
 use Rattle.std.proofs.Common.{sym, ap, ◌∙◌, ⊎_elim, arith, length-append, length-drop}
 use Rattle.std.proofs.Math.Option.{none, some, Option}
 use Rattle.std.proofs.lemmas.List.{take-append-le, drop-append-le}
@@ -12,15 +12,12 @@ use Rattle.blocks.specs.Blocks.{words, total, sums, Fault, fault, fault_in, bloc
 use Rattle.blocks.specs.WordLaws.{words_append, total_append, bytes_of_word, word_of_bytes}
 use Rattle.blocks.proofs.SoundLaws.{part_left, sound_of, wrong_sums}
 use Rattle.blocks.proofs.RunLaws.{each_none, lowest_none, lowest_found, read_on, accepted_sound}
+use Rattle.blocks.specs.DamageLaws.{Word, word}
 
--- four bytes
-pub data Word : List ℕ → Type 0 where
-  word : {a b c d : ℕ} → a < 256 → b < 256 → c < 256 → d < 256 → Word (a ∷ b ∷ c ∷ d ∷ [])
+-- ---- sums of words
 
 pub word_length : {w : List ℕ} → Word w → length w ≡ 4
 word_length (word p q r s) = refl
-
--- ---- sums of words
 
 -- the word's value stands apart in the first sum
 total_parts : (p w q : List ℕ) → length p % 4 ≡ 0 → length w ≡ 4 → total (words (p ++ (w ++ q))) ≡ total (words p) + (total (words w) + total (words q))
@@ -37,6 +34,8 @@ word_back (word {a = a} {b = b} {c = c} {d = d} p q r s) (word {a = a'} {b = b'}
     let f : a + b * 256 + c * 65536 + d * 16777216 ≡ a' + b' * 256 + c' * 65536 + d' * 16777216 = omega arith in
     sym (bytes_of_word p q r s) ∙ ap (bytes_of 4) f ∙ bytes_of_word p' q' r' s'
 
+-- ---- one block
+
 -- the sums tell the first sum
 first_told : (f g : List ℕ) → sums f ≡ sums g → total (words f) % 4294967296 ≡ total (words g) % 4294967296
 unfolding sums
@@ -51,8 +50,6 @@ first_told f g e =
         → x / 256 / 256 / 256 % 256 ≡ y / 256 / 256 / 256 % 256 → x ≡ y
     told x y u v p q r s = sym (word_of_bytes x u) ∙ (λ i. p i + q i * 256 + r i * 65536 + s i * 16777216) ∙ word_of_bytes y v
 
--- ---- one block
-
 -- the first n, where the three parts meet before
 cut : (n : ℕ) (p w q : List ℕ) → length p + length w ≤ n → take n (p ++ (w ++ q)) ≡ p ++ (w ++ take (n - length p - length w) q)
 cut n p w q l =
@@ -65,6 +62,8 @@ cut_off n p w q l =
     let m = n - length p - length w in
     let e : n ≡ length p + (length w + m) = omega arith in
     ap (λ (j : ℕ). drop j (p ++ (w ++ q))) e ∙ drop-append-add p (w ++ q) (length w + m) ∙ drop-append-add w q m
+
+-- ---- a run
 
 module _ (p q : List ℕ) {w w' : List ℕ} (W : Word w) (W' : Word w') (apart : w ≡ w' → ⊥) (aligned : length p % 4 ≡ 0) where
   abbrev Right : List ℕ → Type 0
@@ -102,8 +101,6 @@ module _ (p q : List ℕ) {w w' : List ℕ} (W : Word w) (W' : Word w') (apart :
 
   changed : length p + 4 ≤ 512 → Right (p ++ (w ++ q)) → Right (p ++ (w' ++ q)) → ⊥
   changed l r r' = ⊎_elim (λ s. in_front (omega arith) r r') (λ f. let g : length p < 504 → ⊥ = f in in_sums (omega arith) r r') (answer (lt_test (length p) 504))
-
--- ---- a run
 
 pub word_changed : (a c lent lent' : List ℕ) {w w' : List ℕ} → length a % 4 ≡ 0 → Word w → Word w' → (w ≡ w' → ⊥)
     → (read (a ++ (w ++ c)) lent).code ≡ 0 → read (a ++ (w' ++ c)) lent' ≡ refused 22 (length a / 512) lent'

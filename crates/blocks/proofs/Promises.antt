@@ -9,17 +9,19 @@ use Rattle.std.proofs.Math.Seq.{take-append_seam}
 use Rattle.blocks.specs.Blocks.{blocks_of, Filled, refused, done, write, read}
 use Rattle.blocks.specs.Answers.{Log, Wrote, Answered}
 use Rattle.blocks.proofs.RunLaws.{accepted_run, blocks_of_length, fills, write_right, read_right, read_blocks}
-use Rattle.blocks.proofs.DamageLaws.{Word, word_changed}
+use Rattle.blocks.specs.DamageLaws.{Word}
+use Rattle.blocks.proofs.DamageLaws.{word_changed}
+use Rattle.blocks.specs.Promises.{Small}
 
 -- ---- what an answer means, code by code
 
 pub write_means : (log lent : List ℕ) → Wrote log lent (write log lent)
 write_means = write_right
 
+-- ---- there and back
+
 pub read_means : (run lent : List ℕ) → Answered run lent (read run lent)
 read_means = read_right
-
--- ---- there and back
 
 -- the blocks of a log, up to 4,096 whole records of any content, are read as that log
 pub reads_back : (log lent : List ℕ) → Log log → length log ≤ length lent → read (blocks_of log) lent ≡ done log lent
@@ -49,6 +51,8 @@ accepted_as_written run lent z = go (read_right run lent) z
     go (Answered.no_room log l s q) e = absurd (let y : ◌≡◌ {A = ℕ} 24 0 = e in omega arith)
     go (Answered.reads log l s q) e = let same = take-append_seam log (drop (length log) lent) in (subst Log (sym same) l, s ∙ ap blocks_of (sym same))
 
+-- ---- a refusal leaves the lent bytes as they were
+
 -- logs with the same blocks are the same log
 pub blocks_apart : (log log' : List ℕ) → Log log → Log log' → blocks_of log ≡ blocks_of log' → log ≡ log'
 blocks_apart log log' l l' e =
@@ -56,8 +60,6 @@ blocks_apart log log' l l' e =
     let size = length-append log log' in
     let same = sym (reads_back log lent l (omega arith)) ∙ ap (λ (r : List ℕ). read r lent) e ∙ reads_back log' lent l' (omega arith) in
     sym (take-append_seam log (drop (length log) lent)) ∙ ap (λ (a : Filled). take a.place a.bytes) same ∙ take-append_seam log' (drop (length log') lent)
-
--- ---- a refusal leaves the lent bytes as they were
 
 pub write_refusal_leaves : (log lent : List ℕ) → ((write log lent).code ≡ 0 → ⊥) → (write log lent).bytes ≡ lent
 write_refusal_leaves log lent f = go (write_right log lent) f
@@ -67,6 +69,8 @@ write_refusal_leaves log lent f = go (write_right log lent) f
     go (Wrote.no_room l q) g = refl
     go (Wrote.written l q) g = absurd (g refl)
 
+-- ---- codes and places are small
+
 pub read_refusal_leaves : (run lent : List ℕ) → ((read run lent).code ≡ 0 → ⊥) → (read run lent).bytes ≡ lent
 read_refusal_leaves run lent f = go (read_right run lent) f
   where
@@ -75,12 +79,6 @@ read_refusal_leaves run lent f = go (read_right run lent) f
     go (Answered.bad_block w q l) g = refl
     go (Answered.no_room log l s q) g = refl
     go (Answered.reads log l s q) g = absurd (g refl)
-
--- ---- codes and places are small
-
-pub record Small (a : Filled) : Type 0 where
-  pub code : a.code ≤ 24
-  pub place : a.place ≤ 34304
 
 pub write_small : (log lent : List ℕ) → Small (write log lent)
 write_small log lent = go (write_right log lent)
@@ -99,11 +97,11 @@ read_small run lent = go (read_right run lent)
     go (Answered.no_room log l s q) = record { code = omega arith; place = omega arith }
     go (Answered.reads log l s q) = let f = l.few in record { code = omega arith; place = omega arith }
 
+-- ---- damage
+
 -- so the code times 2 ^ 32 plus the place, in one number, tells both
 pub packed_apart : (a c : Filled) → Small a → Small c → a.code * 4294967296 + a.place ≡ c.code * 4294967296 + c.place → (a.code ≡ c.code) × (a.place ≡ c.place)
 packed_apart a c s t e = let p = s.place in let q = t.place in (omega arith, omega arith)
-
--- ---- damage
 
 -- an accepted run in which one of the four-byte words is changed, in a record, in a field or in a sum, gets 22, with the block of that word as the place
 pub damage_found : (a c lent lent' : List ℕ) {w w' : List ℕ} → length a % 4 ≡ 0 → Word w → Word w' → (w ≡ w' → ⊥)

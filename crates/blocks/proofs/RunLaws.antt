@@ -14,12 +14,16 @@ use Rattle.std.proofs.Math.Seq.{take_all}
 use Rattle.graph.specs.Decide.{Decides, or_test, not_test, eq_test, lt_test, answer, by_test, test_true, test_false}
 use Rattle.blocks.specs.Blocks.{block, run_of, first_blocks, block_count, blocks_of, count_in, sums_wrong, form_wrong, Fault, fault, fault_in, block_at, or_else, lowest_fault, records_in, first_records, log_in, Filled, refused, done, filled, write, judged, read}
 use Rattle.blocks.specs.Answers.{Log, Lowest, Wrote, written, Answered, bad_block, reads}
-use Rattle.blocks.proofs.SoundLaws.{part_left, room, room_least, room_other, Count, count_most, count_some, Sound, sound_of, fault_none, block_length, block_records, block_sound, sound_block, sound_size}
+use Rattle.blocks.specs.SoundLaws.{room, Count, Sound}
+use Rattle.blocks.proofs.SoundLaws.{part_left, room_least, room_other, count_most, count_some, sound_of, fault_none, block_length, block_records, block_sound, sound_block, sound_size}
+use Rattle.blocks.specs.RunLaws.{Off}
 
 -- ---- the lowest fault
 
 below_or_last : (k m : ℕ) → k < suc m → (k < m) ⊎ (k ≡ m)
 below_or_last k m l = ⊎_elim (λ p. inl p) (λ f. let g : k < m → ⊥ = f in inr (omega arith)) (answer (lt_test k m))
+
+-- ---- the blocks of a log
 
 module _ (n : ℕ) (bytes : List ℕ) where
   pub lowest_none : (m : ℕ) → ((k : ℕ) → k < m → fault_in n k (block_at k bytes) ≡ none) → lowest_fault n bytes m ≡ none
@@ -67,8 +71,6 @@ module _ (n : ℕ) (bytes : List ℕ) where
           let l = r.inside in
           record { inside = omega arith; none_below = r.none_below; this = r.this; coded = r.coded }
 
--- ---- the blocks of a log
-
 module _ (log : List ℕ) where
   pub run_fits : (k : ℕ) → length (run_of k log) ≤ 496
   run_fits k = let e = length-take 496 (drop (496 * k) log) in omega arith
@@ -87,6 +89,8 @@ module _ (log : List ℕ) where
       ⊎_elim (λ q. part_left 512 (512 * k) (first_blocks n log) last (omega arith) ∙ blocks_part n k q)
       (λ q. subst (λ (j : ℕ). block_at j (first_blocks n log ++ last) ≡ block j (run_of j log)) (sym q) (ap (take 512) (drop_at (first_blocks n log) last (512 * n) e) ∙ take_all 512 last (omega arith)))
       (below_or_last k n l)
+
+-- ---- a run without fault
 
 module _ (log : List ℕ) (l : Log log) where
   run_length : (k : ℕ) → length (run_of k log) ≡ min 496 (length log - 496 * k)
@@ -133,7 +137,7 @@ module _ (log : List ℕ) (l : Log log) where
       let e : length (first_blocks n log) / 512 ≡ n = let z = blocks_length log n in omega arith in
       ap (λ (j : ℕ). first_records j (first_blocks n log)) e ∙ records_back n (omega arith) ∙ take_all (496 * n) log (omega arith)
 
--- ---- a run without fault
+-- ---- the answers
 
 module _ (bytes : List ℕ) (n : ℕ) (long : length bytes ≡ 512 * n) (few : n ≤ 67) (good : lowest_fault n bytes n ≡ none) where
   pub at_length : (k : ℕ) → k < n → length (block_at k bytes) ≡ 512
@@ -201,8 +205,6 @@ module _ (bytes : List ℕ) (n : ℕ) (long : length bytes ≡ 512 * n) (few : n
   remade =
       ap (λ (j : ℕ). first_blocks j (first_records n bytes)) (held_by n refl).count_right ∙ first_remade n (omega arith) ∙ take_all (512 * n) bytes (omega arith)
 
--- ---- the answers
-
 pub fills : (bytes lent : List ℕ) → length bytes ≤ length lent → filled bytes lent ≡ done bytes lent
 unfolding filled
 fills bytes lent l = ap (λ (b : Bool). cond b (refused 24 0 lent) (done bytes lent)) (le-ltb (length lent) (length bytes) l)
@@ -210,10 +212,6 @@ fills bytes lent l = ap (λ (b : Bool). cond b (refused 24 0 lent) (done bytes l
 pub fills_not : (bytes lent : List ℕ) → length lent < length bytes → filled bytes lent ≡ refused 24 0 lent
 unfolding filled
 fills_not bytes lent l = ap (λ (b : Bool). cond b (refused 24 0 lent) (done bytes lent)) (lt-ltb (length lent) (length bytes) l)
-
--- a length that is no multiple, or above the most
-abbrev pub Off : ℕ → ℕ → ℕ → Type 0
-Off size most l = (l % size ≡ 0 → ⊥) ⊎ (most < l)
 
 off_test : (size most l : ℕ) → Decides (not (eqb (l % size) 0) || ltb most l) (Off size most l)
 off_test size most l = or_test (not_test (eq_test (l % size) 0)) (lt_test most l)

@@ -16,6 +16,7 @@ use Rattle.std.proofs.Math.Seq.{take_at, drop_at}
 use Rattle.graph.specs.Decide.{Decides, T_and, and_test, not_test, own_test, eq_test, lt_test, every_of, by_test, test_true, true_is}
 use Rattle.history.specs.Formats.{bytes_of}
 use Rattle.blocks.specs.Blocks.{sums, front, block, same, sums_wrong, count_in, count_wrong, form_wrong, Fault, fault, fault_in, records_in}
+use Rattle.blocks.specs.SoundLaws.{Count, Sound, room}
 
 -- ---- lists
 
@@ -63,14 +64,10 @@ or-false : (a b : Bool) → (a || b) ≡ false → (a ≡ false) × (b ≡ false
 or-false true b e = absurd (let z : ◌≡◌ {A = ℕ} 0 1 = cc in omega arith)
 or-false false b e = (refl, e)
 
-false_or : {a b : Bool} → a ≡ false → b ≡ false → (a || b) ≡ false
-false_or p q = ap₂ ◌||◌ p q
-
 -- ---- the count
 
--- the most records that the last block can have
-abbrev pub room : ℕ → ℕ
-room k = cond (eqb k 66) 4 62
+false_or : {a b : Bool} → a ≡ false → b ≡ false → (a || b) ≡ false
+false_or p q = ap₂ ◌||◌ p q
 
 pub room_least : (k : ℕ) → k ≡ 66 → room k ≡ 4
 room_least k e = ap (λ (b : Bool). cond b 4 62) (eq-eqb k 66 e)
@@ -84,11 +81,6 @@ room_most k = go (eqb k 66)
 
 pub room_other : (k : ℕ) → (k ≡ 66 → ⊥) → room k ≡ 62
 room_other k e = ap (λ (b : Bool). cond b 4 62) (ne_eqb k 66 e)
-
-pub record Count (n k c : ℕ) : Type 0 where
-  pub before : suc k < n → c ≡ 62
-  pub some_last : n ≤ suc k → 1 ≤ c
-  pub most_last : n ≤ suc k → c ≤ room k
 
 pub count_holds : (n k c : ℕ) → count_wrong n k c ≡ false → Count n k c
 count_holds n k c = by_test (λ b. cond b (not (eqb c 62)) (eqb c 0 || ltb (room k) c) ≡ false → Count n k c) (lt_test (suc k) n)
@@ -111,17 +103,10 @@ pub count_most : {n k c : ℕ} → Count n k c → c ≤ 62
 count_most {n} {k} {c} q = by_test (λ b. c ≤ 62) (lt_test (suc k) n) (λ l. let e = q.before l in omega arith)
     (λ f. let g : suc k < n → ⊥ = f in let m = room_most k in let l = q.most_last (omega arith) in omega arith)
 
-pub count_some : {n k c : ℕ} → Count n k c → 1 ≤ c
-count_some {n} {k} {c} q = by_test (λ b. 1 ≤ c) (lt_test (suc k) n) (λ l. let e = q.before l in omega arith) (λ f. let g : suc k < n → ⊥ = f in q.some_last (omega arith))
-
 -- ---- a block without fault
 
-pub record Sound (n k : ℕ) (b : List ℕ) : Type 0 where
-  pub sums_right : drop 504 b ≡ sums (take 504 b)
-  pub number_right : take 4 b ≡ bytes_of 4 k
-  pub count_right : Count n k (count_in b)
-  pub zeros_right : let z = take 2 (drop 6 b) in z ≡ replicate (length z) 0
-  pub unused_right : let u = drop (8 + 8 * count_in b) (take 504 b) in u ≡ replicate (length u) 0
+pub count_some : {n k c : ℕ} → Count n k c → 1 ≤ c
+count_some {n} {k} {c} q = by_test (λ b. 1 ≤ c) (lt_test (suc k) n) (λ l. let e = q.before l in omega arith) (λ f. let g : suc k < n → ⊥ = f in q.some_last (omega arith))
 
 no_fault : (b c : Bool) (f g : Fault) → cond b (some f) (cond c (some g) none) ≡ none → (b ≡ false) × (c ≡ false)
 no_fault true c f g e = absurd (let z : ◌≡◌ {A = ℕ} 0 1 = cc in omega arith)
@@ -159,6 +144,8 @@ unfolding fault_in sums_wrong
 wrong_sums n k b f =
     ap (λ (x : Bool). cond x (some (fault 22 k)) (cond (form_wrong n k b) (some (fault 23 k)) none)) (test_true (not_test (same_test (drop 504 b) (sums (take 504 b)))) f)
 
+-- ---- the blocks of the writer
+
 pub wrong_form : (n k : ℕ) (b : List ℕ) → drop 504 b ≡ sums (take 504 b) → (Sound n k b → ⊥) → fault_in n k b ≡ some (fault 23 k)
 wrong_form n k b s f = go (form_wrong n k b) refl
   where
@@ -171,7 +158,7 @@ wrong_form n k b s f = go (form_wrong n k b) refl
     go true e = with_form e
     go false e = absurd (f (sound_of n k b (with_form e)))
 
--- ---- the blocks of the writer
+-- ---- a block without fault is the writer's
 
 module _ (k : ℕ) (run : List ℕ) (fits : length run ≤ 496) where
   pub front_length : length (front k run) ≡ 504
@@ -219,8 +206,6 @@ module _ (k : ℕ) (run : List ℕ) (fits : length run ≤ 496) where
               (sym (ap₂ (λ (m : ℕ) (f : List ℕ). drop (8 + m) f) block_bytes_in block_front ∙ front_unused))
               (ap (λ (m : ℕ). replicate m 0) (sym (length-replicate (496 - length run) 0)));
         }
-
--- ---- a block without fault is the writer's
 
 -- what stands before the sums, from the parts
 front_of : (n k : ℕ) (b : List ℕ) → length b ≡ 512 → Sound n k b → (take 504 b ≡ front k (records_in b)) × (length (records_in b) ≡ 8 * count_in b)

@@ -32,10 +32,7 @@ use Rattle.history_laws.specs.OrderLaws.{step_kept}
 use Rattle.history_laws.specs.TimeLaws.{by_time, precedes_goes, goes_precedes, ended_precedes}
 use Rattle.coarse.specs.Coarse.{grouped_event, grouped, in_group, AsksStep, with_step, coarse_reply, coarse_granted, coarse_after, coarse_book, coarse_replies_from, coarse_history_from, coarse_book_from, coarse_replies, coarse_history, coarse_book_of, InTurnBelow, InTurnBelowAfter}
 use Rattle.coarse.proofs.GroupLaws.{map_in, map_before, opened_grouped, abandoned_grouped, kept_jobs_grouped, open_grouped, wrote_grouped, grouped_step, all_grouped, kept_grouped, group_precedes}
-
--- the codes of a step in their order: is its group above 255, is its job open, does it close a circle?
-abbrev pub code_by : Bool → Bool → Bool → ℕ
-code_by beyond is_open closes = cond beyond 2 (cond (not is_open) 3 (cond closes 7 0))
+use Rattle.coarse.specs.CoarseLaws.{code_by}
 
 -- of the tests only those of a step give 2
 tested_two : (f : Facts) (w : Want) (j c : ℕ) → first_of (tests f w j c) ≡ 2 → (k : Kind) × ((w ≡ a_step k) ⊎ ((w ≡ a_publish) × (k ≡ write)))

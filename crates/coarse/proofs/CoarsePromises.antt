@@ -9,8 +9,8 @@ use Rattle.std.proofs.Common.{sym, ap, ap₂, ◌∙◌, subst, subst₂, ⊎_el
 use Rattle.std.proofs.Math.Option.{some}
 use Rattle.graph.specs.Decide.{answer, test_true, test_false, le_test}
 use Rattle.graph.specs.Lists.{◌∈◌, Before}
-use Rattle.history.specs.Events.{Kind, Event, opens, steps, ends, abandons, History, has, opened, ended, abandoned, kept, open_now, wrote, kept_steps, Precedes, Circular, has_circle}
-use Rattle.history.specs.Replies.{cells, most_open, most_of_port, numbers, Request, Reply, of_port, Book, reply, replies, history_of, book_of}
+use Rattle.history.specs.Events.{Kind, Event, opens, steps, ends, abandons, History, has, kept, open_now, kept_steps, Precedes, Circular, has_circle}
+use Rattle.history.specs.Replies.{cells, most_open, most_of_port, numbers, Request, Reply, of_port, Book, reply}
 use Rattle.history.specs.Orders.{Accepted, order_of}
 use Rattle.history.specs.Run.{Program, Raise, AnyOrder}
 use Rattle.history_laws.specs.CircleLaws.{has_circle_test}
@@ -21,20 +21,16 @@ use Rattle.held_laws.specs.HeldExact.{held_exact}
 use Rattle.coarse.specs.Coarse.{coarse_cells, group, grouped_event, grouped, in_group, AsksStep, with_step, coarse_reply, coarse_replies, coarse_history, coarse_book_of, TurnsBelow}
 use Rattle.coarse.specs.CoarseHeld.{coarse_answer, coarse_next, coarse_answers, coarse_state}
 use Rattle.coarse.proofs.GroupLaws.{group_below, group_bound, opened_grouped, ended_grouped, abandoned_grouped, kept_jobs_grouped, open_grouped, wrote_grouped}
-use Rattle.coarse.proofs.CoarseLaws.{replies_grouped, history_grouped, book_grouped, grouped_sound, code_by, step_code, granted_free, two_asks, turns_true, accepted_true, order_true, exists_true, time_true, cells_true, sights_true}
+use Rattle.coarse.specs.CoarseLaws.{code_by}
+use Rattle.coarse.proofs.CoarseLaws.{replies_grouped, history_grouped, book_grouped, grouped_sound, step_code, granted_free, two_asks, turns_true, accepted_true, order_true, exists_true, time_true, cells_true, sights_true}
+use Rattle.coarse.specs.CoarsePromises.{AsExact, CoarseSound, CoarseStep, SameJobs}
 
 -- ---- the exact rule on the grouped history
 
--- the replies are those of the exact rule to the requests with their cells grouped, one by one, and the log, grouped, is the history that these leave; the book is theirs
-pub record AsExact (g : ℕ → ℕ) (first : ℕ) (rs : List Request) : Type 0 where
-  pub answered : coarse_replies g first rs ≡ replies first (map (in_group g) rs)
-  pub left : grouped g (coarse_history g first rs) ≡ history_of first (map (in_group g) rs)
-  pub booked : coarse_book_of g first rs ≡ book_of first (map (in_group g) rs)
+-- ---- cells and groups
 
 pub coarse_is_exact : (g : ℕ → ℕ) (first : ℕ) (rs : List Request) → AsExact g first rs
 coarse_is_exact g first rs = record { answered = replies_grouped g first rs; left = history_grouped g first rs; booked = book_grouped g first rs }
-
--- ---- cells and groups
 
 -- whoever precedes another by true cells precedes it by groups, and so a circle by true cells is one by groups
 pub group_precedes : (g : ℕ → ℕ) (h : History) (i j : ℕ) → Precedes (kept_steps h) i j → Precedes (kept_steps (grouped g h)) i j
@@ -43,14 +39,7 @@ group_precedes g h i j = Rattle.coarse.proofs.GroupLaws.group_precedes g h i j
 pub group_circle : (g : ℕ → ℕ) (h : History) → Circular (kept_steps h) → Circular (kept_steps (grouped g h))
 group_circle g h = Rattle.coarse.proofs.GroupLaws.group_circle g h
 
--- cells have no part in which jobs are opened, ended, abandoned, kept, open, and which have written
-pub record SameJobs (g : ℕ → ℕ) (h : History) : Type 0 where
-  pub opened_ones : opened (grouped g h) ≡ opened h
-  pub ended_ones : ended (grouped g h) ≡ ended h
-  pub abandoned_ones : abandoned (grouped g h) ≡ abandoned h
-  pub kept_ones : kept (grouped g h) ≡ kept h
-  pub open_ones : open_now (grouped g h) ≡ open_now h
-  pub writers : (j : ℕ) → wrote (grouped g h) j ≡ wrote h j
+-- ---- no circle by true cells
 
 pub same_jobs : (g : ℕ → ℕ) (h : History) → SameJobs g h
 same_jobs g h =
@@ -63,18 +52,11 @@ same_jobs g h =
       writers = wrote_grouped g h;
     }
 
--- ---- no circle by true cells
+-- ---- the codes of a step
 
 -- no log that the mode grants has a circle by its true cells
 pub coarse_no_circle : (g : ℕ → ℕ) (first : ℕ) (rs : List Request) → Circular (kept_steps (coarse_history g first rs)) → ⊥
 coarse_no_circle g first rs z = (grouped_sound g first rs).no_circle (group_circle g (coarse_history g first rs) z)
-
--- ---- the codes of a step
-
--- a well-formed step, or publish, of an open job on a real cell is granted exactly when with it the grouped kept history has no circle, and else gets 7
-pub record CoarseStep (g : ℕ → ℕ) (b : Book) (h : History) (k : Kind) (r : Request) : Type 0 where
-  pub granted : (Circular (kept_steps (grouped g (with_step h k r))) → ⊥) ↔ ((coarse_reply g b h r).code ≡ 0)
-  pub refused : Circular (kept_steps (grouped g (with_step h k r))) ↔ ((coarse_reply g b h r).code ≡ 7)
 
 real_code : (g : ℕ → ℕ) (b : Book) (h : History) (k : Kind) (r : Request) → AsksStep r k → r.byte1 ≡ 0 → r.job ∈ open_now h → g r.cell < cells
     → (coarse_reply g b h r).code ≡ cond (has_circle (kept_steps (grouped g (with_step h k r)))) 7 0
@@ -104,6 +86,8 @@ pub true_circle_seven : (g : ℕ → ℕ) (b : Book) (h : History) (k : Kind) (r
     → Circular (kept_steps (with_step h k r)) → (coarse_reply g b h r).code ≡ 7
 true_circle_seven g b h k r asks zero_byte is_open real z = (coarse_step_reply g b h k r asks zero_byte is_open real).refused.0 (group_circle g (with_step h k r) z)
 
+-- ---- the log and its orders
+
 -- a well-formed step, or publish, gets 2 exactly for a group above 255
 pub group_two : (g : ℕ → ℕ) (b : Book) (h : History) (k : Kind) (r : Request) → AsksStep r k → r.byte1 ≡ 0 → ((coarse_reply g b h r).code ≡ 2) ↔ (cells ≤ g r.cell)
 group_two g b h k r asks zero_byte =
@@ -118,18 +102,6 @@ group_two g b h k r asks zero_byte =
     other true true e = let q : ◌≡◌ {A = ℕ} 7 2 = e in omega arith
     other true false e = let q : ◌≡◌ {A = ℕ} 0 2 = e in omega arith
     other false z e = let q : ◌≡◌ {A = ℕ} 3 2 = e in omega arith
-
--- ---- the log and its orders
-
--- every log that the mode grants is in turn, by its true cells too, for any bound of the cells that the bound of the groups gives; its numbers were issued one after the
--- other, each once and below 2^32; at most 32 jobs are open, and of a port 16
-pub record CoarseSound (g : ℕ → ℕ) (first : ℕ) (b : Book) (h : History) : Type 0 where
-  pub turns : (n : ℕ) → ((c : ℕ) → g c < cells → c < n) → TurnsBelow n h
-  pub issued : (j : ℕ) → j ∈ opened h → j < first + length (opened h)
-  pub once : (i j : ℕ) → Before i j (opened h) → i < j
-  pub in_range : (j : ℕ) → j ∈ opened h → j < numbers
-  pub few : length (open_now h) ≤ most_open
-  pub few_of_port : (p : ℕ) → length (of_port b.port p (open_now h)) ≤ most_of_port
 
 pub coarse_sound : (g : ℕ → ℕ) (first : ℕ) (rs : List Request) → CoarseSound g first (coarse_book_of g first rs) (coarse_history g first rs)
 coarse_sound g first rs =
@@ -164,14 +136,14 @@ pub coarse_real_time : (g : ℕ → ℕ) (first : ℕ) (rs : List Request) (o : 
     → (i j : ℕ) → j ∈ kept (coarse_history g first rs) → Before (ends i) (opens j) (coarse_history g first rs) → Before i j o
 coarse_real_time g first rs o a i j = time_true g (coarse_history g first rs) (grouped_sound g first rs).turns a
 
+-- ---- the grouping by 16
+
 pub coarse_one_at_a_time {ℓ} : (g : ℕ → ℕ) (first : ℕ) (rs : List Request) (o : List ℕ) → Accepted (coarse_history g first rs) o
     → (X : Type ℓ) (raise : Raise X) → AnyOrder raise → (f : Program X) (w : ℕ → X) → AsTheLog X raise f w (coarse_history g first rs) o
 coarse_one_at_a_time g first rs o a X raise law f w =
     let h = coarse_history g first rs in
     let t = (grouped_sound g first rs).turns in
     record { cells = cells_true g h t a raise law f w; sights = sights_true g h t a raise law f w }
-
--- ---- the grouping by 16
 
 -- the bound of the groups is the bound 4,096 of the cells
 pub group_bounds : (c : ℕ) → leb cells (group c) ≡ leb coarse_cells c
@@ -194,11 +166,13 @@ two_means b h r e = let q = two_asks group b h r e in (q.0, q.1, (coarse_two b h
 pub coarse_real : (b : Book) (h : History) (k : Kind) (r : Request) → AsksStep r k → r.byte1 ≡ 0 → r.job ∈ open_now h → r.cell < coarse_cells → CoarseStep group b h k r
 coarse_real b h k r asks zero_byte is_open real = coarse_step_reply group b h k r asks zero_byte is_open ((group_below r.cell).0 real)
 
+-- ---- one cell to a group
+
 -- every log that is granted is in turn with 4,096 for the bound of the cells
 pub coarse_turns : (first : ℕ) (rs : List Request) → TurnsBelow coarse_cells (coarse_history group first rs)
 coarse_turns first rs = (coarse_sound group first rs).turns coarse_cells (λ c. (group_below c).1)
 
--- ---- one cell to a group
+-- ---- the slots
 
 -- is the exact mode
 pub alone_exact : (b : Book) (h : History) (r : Request) → coarse_reply (λ c. c) b h r ≡ reply b h r
@@ -214,8 +188,6 @@ alone_exact b h r = ap (λ (x : History). reply b x r) (alone h)
     alone : (h : History) → grouped (λ c. c) h ≡ h
     alone [] = refl
     alone (e ∷ h) = ap₂ (λ (x : Event) (l : History). x ∷ l) (own e) (alone h)
-
--- ---- the slots
 
 -- the slots answer and move as in the exact mode, with groups for cells
 pub coarse_slots : (h : Held) (rs : List Request) → (coarse_answers h rs ≡ answers h (map (in_group group) rs)) × (coarse_state h rs ≡ after_all h (map (in_group group) rs))

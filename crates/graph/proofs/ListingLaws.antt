@@ -16,11 +16,9 @@ use Rattle.graph.specs.Decide.{Decides, and_test, or_test, not_test, eq_test, le
 use Rattle.graph.specs.Lists.{other, each, ◌∈◌, here, later, Before, first, after, before_cons, before_right, Once, more, once_head, once_tail, once_irreflexive, once_transitive, strike, strike_keeps, strike_from, strike_shorter, mem_test}
 use Rattle.graph.specs.Walk.{Via, one, step, Any, Circle, join}
 use Rattle.graph.specs.Listing.{Ready, Forward, LowestFirst, done, next, ready, lower, lowest_ready, prepend, place, listing, lowest_first, forced}
+use Rattle.graph.specs.ListingLaws.{Listed, Preceded, found, stuck_at}
 
 -- ---- jobs that are preceded
-
-abbrev pub Preceded : (ℕ → ℕ → Type 0) → List ℕ → ℕ → Type 0
-Preceded E l j = (i : ℕ) × (i ∈ l) × E i j
 
 -- ready is not preceded, with `F i` for `E i j`
 is_ready : {F : ℕ → Type 0} {l : List ℕ} → ((i : ℕ) × (i ∈ l) × F i → ⊥) → (i : ℕ) → i ∈ l → F i → ⊥
@@ -28,6 +26,8 @@ is_ready f i m e = f (i, m, e)
 
 not_ready : {F : ℕ → Type 0} {l : List ℕ} → (i : ℕ) × (i ∈ l) × F i → ((i : ℕ) → i ∈ l → F i → ⊥) → ⊥
 not_ready p r = r p.0 p.1 p.2
+
+-- ---- what is computed
 
 module _ {E : ℕ → ℕ → Type 0} where
   start_at : {i k j : ℕ} → i ≡ k → Via E Any i j → Via E Any k j
@@ -105,17 +105,10 @@ module _ {E : ℕ → ℕ → Type 0} where
   lowest_least [] q r {a} {b} (next m s low w) f differ = let h = forward_head f in let le : a ≤ b = low b h.0 h.1 in omega arith
   lowest_least (x ∷ p) q r (next m s low w) f differ = lowest_least p q r w (forward_tail f) differ
 
--- ---- what is computed
-
 -- what `lowest_ready` finds among js: none, as each is preceded, or the lowest that is ready
 data Lowest (E : ℕ → ℕ → Type 0) (l js : List ℕ) : Option ℕ → Type 0 where
   no_job : ((j : ℕ) → j ∈ js → Preceded E l j) → Lowest E l js none
   job : {j : ℕ} → j ∈ js → Ready E l j → ((i : ℕ) → i ∈ js → Ready E l i → j ≤ i) → Lowest E l js (some j)
-
--- what `lowest_first` finds: the lowest-first order, or none, as there is a circle
-pub data Listed (E : ℕ → ℕ → Type 0) (l : List ℕ) : Option (List ℕ) → Type 0 where
-  found : {o : List ℕ} → LowestFirst E l o → Listed E l (some o)
-  stuck_at : Circle E → Listed E l none
 
 module _ {E : ℕ → ℕ → Type 0} {l js : List ℕ} {j : ℕ} where
   -- one more job to look at: a preceded one, or a ready one

@@ -3,3 +3,4 @@ pub mod Lists
 pub mod Walk
 pub mod Reach
 pub mod Listing
+pub mod ListingLaws

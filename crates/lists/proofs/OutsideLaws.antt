@@ -18,7 +18,8 @@ use Rattle.history_laws.specs.OrderLaws.{ends_kept}
 use Rattle.history.specs.Turns.{Turns}
 use Rattle.history_laws.specs.TurnLaws.{has_test, kept_from, open_from}
 use Rattle.sheet.specs.Sheet.{Leads, leads, at_rest, resting}
-use Rattle.sheet.proofs.RestLaws.{leads_test, rest_test, rest_kept, Moving, rest_unmoved}
+use Rattle.sheet.specs.RestLaws.{Moving}
+use Rattle.sheet.proofs.RestLaws.{leads_test, rest_test, rest_kept, rest_unmoved}
 use Rattle.tallies.specs.Jobs.{Jobs}
 use Rattle.tallies.specs.Marks.{mark, in_row, Preceded}
 use Rattle.tallies.specs.MarkLaws.{Marking}

@@ -25,7 +25,8 @@ use Rattle.held_laws.specs.Seen.{Seen, slot_test, seen_agree, seen_start, seen_a
 use Rattle.locks.specs.Locks.{bars, HeldUp, held_up, of_step, lock_reply, lock_after, lock_book_after, lock_replies_from, lock_replies}
 use Rattle.locks.specs.LocksHeld.{barred, put_off_at, lock_answer, lock_next, lock_answers}
 use Rattle.locks.proofs.LockLaws.{held_up_test}
-use Rattle.locks.proofs.LockReplies.{held_up_by, reply_or_off, after_or_off, book_or_off, Run, run_start, run_next}
+use Rattle.locks.specs.LockReplies.{held_up_by, Run}
+use Rattle.locks.proofs.LockReplies.{reply_or_off, after_or_off, book_or_off, run_start, run_next}
 
 -- ---- what the rows bar
 

@@ -15,6 +15,7 @@ use Rattle.history_laws.specs.EventLaws.{ending_calm}
 use Rattle.history.specs.Turns.{InTurn, InTurnAfter}
 use Rattle.history_laws.specs.TurnLaws.{ended_grows, abandoned_grows, all_steps_grows, old_in, new_in, which_in, which_before, has_test, kept_if, open_from, open_if, kept_steps_from, Orderly, step_single, orderly_start, orderly_next}
 use Rattle.locks.specs.Locks.{bars, HeldUp, held_up}
+use Rattle.locks.specs.LockLaws.{Locked, LockedAfter, Unheld}
 
 -- ---- the test is right
 
@@ -24,6 +25,8 @@ held_up_test h k j c =
     read_as (some_test (λ (s : Step). and_test (has_test (open_now h) s.job) (and_test (not_test (eq_test s.job j)) (and_test (eq_test s.cell c) (own_test (bars s.deed k))))) (all_steps h))
     (λ r. record { step = r.0; granted = r.1; still_open = r.2.0; another = r.2.1.0; same_cell = r.2.1.1.0; unshared = r.2.1.1.1 })
     (λ u. (u.step, u.granted, (u.still_open, (u.another, (u.same_cell, u.unshared)))))
+
+-- ---- what is said of each event
 
 -- steps that clash cannot share their cell
 pub clash_bars : (l k : Kind) → T (kinds_clash l k) → T (bars (does l) k)
@@ -37,23 +40,6 @@ clash_bars add read t = tt
 clash_bars add write t = tt
 clash_bars add add t = tt
 
--- ---- what is said of each event
-
--- a step was not held up
-abbrev pub Unheld : History → Event → Type 0
-Unheld h (opens j) = Unit {0}
-Unheld h (steps k j c) = HeldUp h k j c → ⊥
-Unheld h (ends j) = Unit {0}
-Unheld h (abandons j) = Unit {0}
-
--- each event of the second list in turn and not held up, after the history h and the events before it
-abbrev pub LockedAfter : History → List Event → Type 0
-LockedAfter h [] = Unit {0}
-LockedAfter h (e ∷ es) = (InTurn h e × Unheld h e) × LockedAfter (h ++ e ∷ []) es
-
-abbrev pub Locked : History → Type 0
-Locked h = LockedAfter [] h
-
 pub locked_append : (h : History) (es fs : List Event) → LockedAfter h es → LockedAfter (h ++ es) fs → LockedAfter h (es ++ fs)
 locked_append h [] fs p q = subst (λ (x : History). LockedAfter x fs) (append-nil h) q
 locked_append h (e ∷ es) fs p q =
@@ -64,11 +50,11 @@ pub locked_part : (h : History) (es fs : List Event) → LockedAfter h (es ++ fs
 locked_part h [] fs p = tt
 locked_part h (e ∷ es) fs p = (p.0, locked_part (h ++ e ∷ []) es fs p.1)
 
+-- ---- what follows, and stays true
+
 pub locked_turns : (h : History) (es : List Event) → LockedAfter h es → InTurnAfter h es
 locked_turns h [] p = tt
 locked_turns h (e ∷ es) p = (p.0.0, locked_turns (h ++ e ∷ []) es p.1)
-
--- ---- what follows, and stays true
 
 abbrev is_end : Deed → Bool
 is_end (does k) = false
@@ -200,11 +186,11 @@ module _ {h : History} (r : Released h) where
             (which_in ss m);
       }
 
+-- ---- no circle
+
 released_after : {h : History} (es : List Event) → Released h → LockedAfter h es → Released (h ++ es)
 released_after {h} [] r p = subst Released (sym (append-nil h)) r
 released_after {h} (e ∷ es) r p = subst Released (append_assoc h (e ∷ []) es) (released_after es (released_next r e p.0.0 p.0.1) p.1)
-
--- ---- no circle
 
 module _ {h : History} (r : Released h) where
   -- who precedes has ended before a deed of the other, and so before the other's end

@@ -4,14 +4,13 @@
 -- In order: no circle, of the whole and of every part; what every history so granted has, its order and its log; what gets 10; open, end, abandon and publish; how the replies stand to the first
 -- profile's; the rows answer as the full history does, and what they keep; refusals.
 -- Assumes nothing.
-use Rattle.std.specs.Prelude.{◌≡◌, refl, ◌↔◌, Bool, true, false, cond, List, [], ◌∷◌, ◌++◌, ℕ, ◌≤◌, ◌<◌, length, take}
+use Rattle.std.specs.Prelude.{◌≡◌, refl, Bool, true, false, cond, List, [], ◌∷◌, ◌++◌, ℕ, ◌≤◌, ◌<◌, length, take}
 use Rattle.std.proofs.Common.{sym, ap, ◌∙◌, subst, ⊎_elim, append-nil, arith}
 use Rattle.std.proofs.Math.Option.{some}
 use Rattle.graph.specs.Decide.{answer, test_true, test_false, eq_test, chosen}
 use Rattle.graph.specs.Lists.{◌∈◌}
 use Rattle.history.specs.Events.{Kind, Event, History, opened, kept, open_now, kept_steps, Circular}
 use Rattle.history.specs.Replies.{cells, numbers, Request, Reply, want, code_of, event_of, reply_of, granted_of, entered, ports_after, Book, blank_book, reply, after, book_after}
-use Rattle.history.specs.Turns.{Turns}
 use Rattle.history.specs.Orders.{Accepted, order_of}
 use Rattle.history_laws.specs.OrderLaws.{order_accepted, order_exists}
 use Rattle.history_laws.specs.Granted.{Sound}
@@ -25,9 +24,12 @@ use Rattle.verdicts_laws.specs.LogLaws.{read_back}
 use Rattle.verdicts_laws.specs.Promises.{gives_exactly}
 use Rattle.locks.specs.Locks.{HeldUp, locked, ten_for_seven, lock_reply, lock_granted, lock_after, lock_book_after, lock_replies, lock_history, lock_book, put_off}
 use Rattle.locks.specs.LocksHeld.{put_off_at, lock_answer, lock_next, lock_answers, lock_state}
-use Rattle.locks.proofs.LockLaws.{held_up_test, Locked, locked_part, locked_turns, locked_free}
-use Rattle.locks.proofs.LockReplies.{held_up_by, AsksStep, step_code, Rest, rest_reply, rest_after, rest_book, Published, published, reply_or_off, after_or_off, book_or_off, granted_locked, granted_sound, granted_ported, not_seven, none_seven, part_list}
+use Rattle.locks.specs.LockLaws.{Locked}
+use Rattle.locks.proofs.LockLaws.{held_up_test, locked_part, locked_turns, locked_free}
+use Rattle.locks.specs.LockReplies.{held_up_by, AsksStep, Rest, Published}
+use Rattle.locks.proofs.LockReplies.{step_code, rest_reply, rest_after, rest_book, published, reply_or_off, after_or_off, book_or_off, granted_locked, granted_sound, granted_ported, not_seven, none_seven, part_list}
 use Rattle.locks.proofs.LockExact.{exact}
+use Rattle.locks.specs.LockPromises.{AsFirst, OrFirst, Part, StepReply, as_first, is_off}
 
 -- ---- no circle
 
@@ -42,17 +44,12 @@ locks_part_list first n rs = part_list (blank_book first) [] n rs
 pub locks_part_free : (first n : ℕ) (rs : List Request) → Circular (kept_steps (lock_history first (take n rs))) → ⊥
 locks_part_free first n rs = locks_no_circle first (take n rs)
 
--- and every part of the history, wherever it is cut, in the middle of a publish too, is in turn and has no circle
-pub record Part (p : History) : Type 0 where
-  pub turns : Turns p
-  pub no_circle : Circular (kept_steps p) → ⊥
+-- ---- the histories so granted
 
 pub locks_part : (first : ℕ) (rs : List Request) (p q : History) → lock_history first rs ≡ p ++ q → Part p
 locks_part first rs p q e =
     let l = locked_part [] p q (subst Locked e (granted_locked first rs)) in
     record { turns = locked_turns [] p l; no_circle = locked_free p l }
-
--- ---- the histories so granted
 
 -- each is in turn; its numbers were issued one after the other, each once and below 2^32; at most 32 jobs are open; it has no circle
 pub locks_turns : (first : ℕ) (rs : List Request) → Sound first (lock_history first rs)
@@ -70,6 +67,8 @@ locks_ordered first rs =
     let r = order_exists h s.turns s.no_circle in
     (r.0, r.1, order_accepted h s.turns r.1)
 
+-- ---- what gets 10
+
 module _ (first : ℕ) (rs : List Request) (few : length (lock_history first rs) ≤ 4096) (few_jobs : length (opened (lock_history first rs)) ≤ most_jobs) where
   -- its log, within the sizes, reads back, and with room is never answered 17
   pub locks_read : read_log (log_of (lock_history first rs)) ≡ events (lock_history first rs)
@@ -80,13 +79,6 @@ module _ (first : ℕ) (rs : List Request) (few : length (lock_history first rs)
       let h = lock_history first rs in
       let r = locks_ordered first rs in
       (gives_exactly (log_of h) lent h locks_read room).1 (r.0, r.2)
-
--- ---- what gets 10
-
--- a well-formed step or publish of an open job on a real cell is put off exactly when another open job holds the cell against it, and is granted otherwise
-pub record StepReply (b : Book) (h : History) (r : Request) (k : Kind) : Type 0 where
-  pub put_off : HeldUp h k r.job r.cell ↔ ((lock_reply b h r).code ≡ 10)
-  pub granted : (HeldUp h k r.job r.cell → ⊥) ↔ ((lock_reply b h r).code ≡ 0)
 
 pub held_exactly : (b : Book) (h : History) (r : Request) (k : Kind) → AsksStep (want r.kind) k → r.byte1 ≡ 0 → r.job ∈ open_now h → r.cell < cells → StepReply b h r k
 held_exactly b h r k asks zero_byte is_open real =
@@ -103,34 +95,25 @@ held_exactly b h r k asks zero_byte is_open real =
 pub never_seven : (b : Book) (h : History) (r : Request) → (lock_reply b h r).code ≡ 7 → ⊥
 never_seven = not_seven
 
+-- ---- open, end, abandon and publish
+
 pub never_seven_held : (first : ℕ) (rs : List Request) (a : Reply) → a ∈ lock_answers (fresh_held first) rs → a.code ≡ 7 → ⊥
 never_seven_held first rs a m = none_seven (blank_book first) [] rs a (subst (λ (l : List Reply). a ∈ l) (exact first rs) m)
 
--- ---- open, end, abandon and publish
-
--- an open, an end and an abandon follow the first profile, whatever the history: the reply, and what is granted, and the ports
-pub record AsFirst (b : Book) (h : History) (r : Request) : Type 0 where
-  pub replied : lock_reply b h r ≡ reply b h r
-  pub left : lock_after b h r ≡ after b h r
-  pub booked : lock_book_after b h r ≡ book_after b h r
-
 pub locks_rest : (b : Book) (h : History) (r : Request) → Rest (want r.kind) → AsFirst b h r
 locks_rest b h r w = record { replied = rest_reply b h r w; left = rest_after b h r w; booked = rest_book b h r w }
+
+-- ---- beside the first profile
 
 -- a publish gets the reply of its write; granted, it is the write and the end
 pub locks_publish : (b : Book) (h : History) (r : Request) → Published b h r
 locks_publish = published
 
--- ---- beside the first profile
-
 -- in a history granted by locks each event was in turn, and no step was held up
 pub locks_locked : (first : ℕ) (rs : List Request) → Locked (lock_history first rs)
 locks_locked = granted_locked
 
--- after it a request is put off and nothing changes, or it gets the first profile's reply and leaves what it leaves there
-pub data OrFirst (b : Book) (h : History) (r : Request) : Type 0 where
-  is_off : lock_reply b h r ≡ record { code = 10; job = 0 } → lock_after b h r ≡ h → lock_book_after b h r ≡ b → OrFirst b h r
-  as_first : AsFirst b h r → OrFirst b h r
+-- ---- the rows
 
 pub locks_or_first : (b : Book) (h : History) → Locked h → (r : Request) → OrFirst b h r
 locks_or_first b h l r = go (held_up_by h r) (reply_or_off b h l r) (after_or_off b h l r) (book_or_off b h l r)
@@ -139,8 +122,6 @@ locks_or_first b h l r = go (held_up_by h r) (reply_or_off b h l r) (after_or_of
         → lock_book_after b h r ≡ cond q b (book_after b h r) → OrFirst b h r
     go true d e f = is_off d e f
     go false d e f = as_first (record { replied = d; left = e; booked = f })
-
--- ---- the rows
 
 -- from the fresh state through any requests: the replies of the full history, one by one, and as many put off
 pub locks_exact : (first : ℕ) (rs : List Request) → lock_answers (fresh_held first) rs ≡ lock_replies first rs
@@ -161,14 +142,14 @@ pub locks_next_kept : (h : Held) → h.next ≤ numbers → (r : Request) → (l
 unfolding lock_next
 locks_next_kept h g r = chosen (λ (x : Held). x.next ≤ numbers) (put_off_at h r) g (next_kept h g r)
 
+-- ---- refusals
+
 pub locks_blank_rows : (first : ℕ) (rs : List Request) → Blank (lock_state (fresh_held first) rs)
 locks_blank_rows first rs = go (fresh_held first) (blank_fresh first) rs
   where
     go : (h : Held) → Blank h → (rs : List Request) → Blank (lock_state h rs)
     go h b [] = b
     go h b (r ∷ rs) = go (lock_next h r) (locks_keeps Blank (λ x f. blank_moves f) h b r) rs
-
--- ---- refusals
 
 -- a refusal changes nothing: the history stays, and so does the state, whatever it holds
 pub locks_refused : (b : Book) (h : History) (r : Request) → ((lock_reply b h r).code ≡ 0 → ⊥) → (lock_after b h r ≡ h) × (lock_book_after b h r ≡ b)

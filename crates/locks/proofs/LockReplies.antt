@@ -24,13 +24,11 @@ use Rattle.history_laws.specs.TurnLaws.{has_test, open_steps, orderly}
 use Rattle.history_laws.specs.Granted.{below_bound, passed, undenied, proper_step, Sound, sound_start, sound_after}
 use Rattle.history_laws.specs.PortLaws.{Ported, ported_start, ported_granted}
 use Rattle.locks.specs.Locks.{HeldUp, held_up, of_step, locked, ten_for_seven, lock_reply, lock_granted, lock_after, lock_book_after, lock_replies_from, lock_history_from, lock_book_from, lock_history, lock_book}
-use Rattle.locks.proofs.LockLaws.{held_up_test, LockedAfter, Locked, locked_append, locked_free}
+use Rattle.locks.specs.LockLaws.{LockedAfter, Locked}
+use Rattle.locks.proofs.LockLaws.{held_up_test, locked_append, locked_free}
+use Rattle.locks.specs.LockReplies.{AsksStep, Published, Rest, Run, by_publish, by_step, held_up_by, to_abandon, to_end, to_open}
 
 -- ---- what gets 10
-
--- the request is well-formed, its cell is real, its job is open, and its step is held up
-unfoldable pub held_up_by : History → Request → Bool
-held_up_by h r = eqb r.byte1 0 && of_step (λ k. not (leb cells r.cell) && (has (open_now h) r.job && held_up h k r.job r.cell)) (want r.kind)
 
 -- 7 is given where the first three fail
 seven_step : (x o u : Bool) → eqb (cond x 2 (cond (not o) 3 (cond u 7 0))) 7 ≡ not x && (o && u)
@@ -42,6 +40,8 @@ seven_step false true false = refl
 seven_byte : (z : Bool) (n : ℕ) → eqb (cond (not z) 1 n) 7 ≡ z && eqb n 7
 seven_byte true n = refl
 seven_byte false n = refl
+
+-- ---- a step, and what is none
 
 module _ (b : Book) (h : History) where
   seven_want : (w : Want) (j c : ℕ) → eqb (first_of (tests (locked b h) w j c)) 7 ≡ of_step (λ k. not (leb cells c) && (has (open_now h) j && held_up h k j c)) w
@@ -75,13 +75,6 @@ module _ (b : Book) (h : History) where
       seven_byte (eqb r.byte1 0) (first_of (tests (locked b h) (want r.kind) r.job r.cell))
       ∙ ap (λ (x : Bool). eqb r.byte1 0 && x) (seven_want (want r.kind) r.job r.cell)
 
--- ---- a step, and what is none
-
--- the kind of step that is asked for; of a publish its write
-pub data AsksStep : Want → Kind → Type 0 where
-  by_step : {k : Kind} → AsksStep (a_step k) k
-  by_publish : AsksStep a_publish write
-
 as_step : (f : Facts) {w : Want} {k : Kind} → AsksStep w k → (j c : ℕ) → first_of (tests f w j c) ≡ first_of (step_tests f k j c)
 unfolding tests
 as_step f by_step j c = refl
@@ -111,12 +104,6 @@ step_code b h r k asks zero_byte is_open real =
 -- what is answered 0 had code 0
 ten_zero : (n : ℕ) → ten_for_seven n ≡ 0 → n ≡ 0
 ten_zero n = by_test (λ q. cond q 10 n ≡ 0 → n ≡ 0) (eq_test n 7) (λ e z. absurd (let y : ◌≡◌ {A = ℕ} 10 0 = z in omega arith)) (λ ne z. z)
-
--- an open, an end, an abandon
-pub data Rest : Want → Type 0 where
-  to_open : Rest an_open
-  to_end : Rest an_end
-  to_abandon : Rest an_abandon
 
 rest_want : (b : Book) (h : History) {w : Want} → Rest w → (j c : ℕ) → first_of (tests (locked b h) w j c) ≡ first_of (tests (full b h) w j c)
 unfolding tests locked
@@ -150,10 +137,7 @@ module _ (b : Book) (h : History) (r : Request) (w : Rest (want r.kind)) where
   unfolding ports_after locked
   rest_book = ap (λ (n : ℕ). record { first = b.first; port = cond (eqb n 0) (entered (want r.kind) (full b h).next r.job b.port) b.port }) rest_code
 
--- a publish and its write
-pub record Published (b : Book) (h : History) (r : Request) : Type 0 where
-  pub replied : lock_reply b h (as_kind 6 r) ≡ lock_reply b h (as_kind 3 r)
-  pub left : (lock_reply b h (as_kind 6 r)).code ≡ 0 → lock_after b h (as_kind 6 r) ≡ lock_after b h (as_kind 3 r) ++ ends r.job ∷ []
+-- ---- what gets the first profile's reply
 
 pub published : (b : Book) (h : History) (r : Request) → Published b h r
 published b h r =
@@ -171,8 +155,6 @@ published b h r =
         ∙ sym (append_assoc h (steps write r.job r.cell ∷ []) (ends r.job ∷ []))
         ∙ ap (λ (q : Bool). (h ++ cond q (steps write r.job r.cell ∷ []) []) ++ ends r.job ∷ []) (sym e)
 
--- ---- what gets the first profile's reply
-
 -- where the tests for 10 fail, those for 7 fail too, if what is not held up closes no circle
 same_step : (x o u v : Bool) → (T (not x) → T o → u ≡ false → v ≡ false) → (not x && (o && u)) ≡ false
     → ◌≡◌ {A = ℕ} (cond x 2 (cond (not o) 3 (cond u 7 0))) (cond x 2 (cond (not o) 3 (cond v 7 0)))
@@ -182,6 +164,8 @@ same_step false true u v f e = ap (λ (z : Bool). given z) (e ∙ sym (f tt tt e
   where
     given : Bool → ℕ
     given z = cond z 7 0
+
+-- ---- what was granted is locked
 
 module _ (b : Book) (h : History) (lock : Locked h) where
   -- a step that is not held up closes no circle
@@ -263,7 +247,7 @@ module _ (b : Book) (h : History) (lock : Locked h) where
         go true e = ap booked (code_off e)
         go false e = ap booked (same_code r e)
 
--- ---- what was granted is locked
+-- ---- the histories so granted
 
 module _ (b : Book) (h : History) (sound : Sound b.first h) where
   is_open : (j : ℕ) → (T (not ((locked b h).is_open j)) → ⊥) → j ∈ open_now h
@@ -292,14 +276,6 @@ module _ (b : Book) (h : History) (sound : Sound b.first h) where
   locked_granted r =
       by_test (λ q. LockedAfter h (cond q (event_of (locked b h).next (want r.kind) r.job r.cell) [])) (eq_test (code_of (locked b h) r) 0)
       (λ z. locked_want (want r.kind) r.job r.cell (passed (not (eqb r.byte1 0)) 0 _ z).1) (λ z. tt)
-
--- ---- the histories so granted
-
--- sound as the first profile's are, locked, and at most 16 open jobs have a port
-pub record Run (b : Book) (h : History) : Type 0 where
-  pub sound : Sound b.first h
-  pub lock : Locked h
-  pub ported : Ported b.port (open_now h)
 
 pub run_start : (first : ℕ) → Run (blank_book first) []
 run_start first = record { sound = sound_start first; lock = tt; ported = ported_start (λ j. 0) }
@@ -348,12 +324,12 @@ pub not_seven : (b : Book) (h : History) (r : Request) → (lock_reply b h r).co
 unfolding lock_reply
 not_seven b h r = ten_not_seven (reply_of (locked b h) r).code
 
+-- ---- parts of a list
+
 pub none_seven : (b : Book) (h : History) (rs : List Request) (a : Reply) → a ∈ lock_replies_from b h rs → a.code ≡ 7 → ⊥
 none_seven b h [] a m q = absurd (Memᴰ.not-nil m)
 none_seven b h (r ∷ rs) a m q =
     ⊎_elim (λ e. not_seven b h r (ap (λ (x : Reply). x.code) (sym e) ∙ q)) (λ n. none_seven (lock_book_after b h r) (lock_after b h r) rs a n q) (Memᴰ.cases_cons m)
-
--- ---- parts of a list
 
 grows : (b : Book) (h : History) (rs : List Request) → (es : List Event) × (lock_history_from b h rs ≡ h ++ es)
 grows b h [] = ([], sym (append-nil h))

@@ -16,6 +16,7 @@ use Rattle.history.specs.Events.{Kind, read, write, add, Event, opens, steps, en
 use Rattle.verdicts.specs.Logs.{kind_number}
 use Rattle.notation.specs.Notation.{on_cell, symbol, text_of, Sayable, Says, Form, Begins, Wrong, no_such_byte, stops_short}
 use Rattle.notation.specs.Parse.{Stand, stand, off, kind_of, with_cell, is_digit, goes_on, letter_next, job_next, cell_next, next, event_at, whole_at, grown, Parsed, wrong, says, parse_end, parse_from, parse}
+use Rattle.notation.specs.ParseLaws.{Read, gone_wrong, said}
 
 -- ---- a number in decimal, digit by digit
 
@@ -25,6 +26,8 @@ decimal_next n d p q =
     let a : (n * 10 + d) / 10 ≡ n = omega arith in
     let m : (n * 10 + d) % 10 ≡ d = omega arith in
     ap₂ (λ (x y : ℕ). leading x ++ glyph y ∷ []) a m ∙ ap (λ (l : List ℕ). l ++ glyph d ∷ []) (sym (decimal_leading n p))
+
+-- ---- the stands that a reading comes to
 
 -- what holds of each digit, and of one more digit after a number that is not 0, holds of a number below the limit
 module _ (P : List ℕ → ℕ → Type 0) (limit : ℕ) (one : (d : ℕ) → d < 10 → P ((48 + d) ∷ []) d)
@@ -45,8 +48,6 @@ module _ (P : List ℕ → ℕ → Type 0) (limit : ℕ) (one : (d : ℕ) → d 
 
   by_digits : (n : ℕ) → n < limit → P (decimal n) n
   by_digits n q = by_digits_in n n (le_refl n) q
-
--- ---- the stands that a reading comes to
 
 -- the steps that have a symbol
 data Way : Type 0 where
@@ -109,6 +110,8 @@ part (bracketed k j) = letter k ∷ (decimal j ++ (91 ∷ []))
 part (in_Cell k j n) = letter k ∷ (decimal j ++ (91 ∷ decimal n))
 part (closed k j n) = letter k ∷ (decimal j ++ (91 ∷ (decimal n ++ (93 ∷ []))))
 
+-- ---- moves
+
 -- the numbers are below their limits, and nothing is read at the start
 abbrev Fit : History → Spot → Type 0
 Fit g start = g ≡ []
@@ -118,8 +121,6 @@ Fit g (in_job l n) = n < 4_294_967_296
 Fit g (bracketed k j) = j < 4_294_967_296
 Fit g (in_Cell k j n) = (j < 4_294_967_296) × (n < 65_536)
 Fit g (closed k j n) = (j < 4_294_967_296) × (n < 65_536)
-
--- ---- moves
 
 -- from spot to spot within a symbol
 data Goes : Spot → ℕ → Spot → Type 0 where
@@ -165,12 +166,12 @@ part_whole whole_open = refl
 part_whole whole_end = refl
 part_whole (whole_step k {j} {n}) = sym (symbol_way k j n)
 
+-- ---- the next stand is the move
+
 fit_whole : (g : History) {x : Spot} {e : Event} → Whole x e → Fit g x → Sayable e
 fit_whole g whole_open f = f
 fit_whole g whole_end f = f
 fit_whole g (whole_step k) f = sayable_way k f
-
--- ---- the next stand is the move
 
 digit_test : (b : ℕ) → Decides (is_digit b) ((48 ≤ b) × (b ≤ 57))
 unfolding is_digit
@@ -230,14 +231,14 @@ next_whole whole_open = refl
 next_whole whole_end = refl
 next_whole (whole_step k) = refl
 
+-- ---- and no other
+
 event_whole : {x : Spot} {e : Event} → Whole x e → event_at (at x) ≡ e
 unfolding event_at
 event_whole whole_open = refl
 event_whole whole_end = refl
 event_whole (whole_step reading) = refl
 event_whole (whole_step writing) = refl
-
--- ---- and no other
 
 data Move (x : Spot) (b : ℕ) : Type 0 where
   refuses : next (at x) b ≡ off → Move x b
@@ -285,6 +286,8 @@ after_job for_end n b f = ⊎_elim (λ e. over (ends n) whole_end e) (λ g. refu
 after_job (for_step reading) n b f = ⊎_elim (λ e. along e (bracket reading)) (λ g. refuses (both_no _ _ off f (test_false (eq_test b 91) g))) (answer (eq_test b 91))
 after_job (for_step writing) n b f = ⊎_elim (λ e. along e (bracket writing)) (λ g. refuses (both_no _ _ off f (test_false (eq_test b 91) g))) (answer (eq_test b 91))
 
+-- ---- the text of events, with a blank after each
+
 move : (x : Spot) (b : ℕ) → Move x b
 unfolding next
 move start b = by_letter start b first_letter refl
@@ -301,8 +304,6 @@ move (in_Cell k j n) b =
     (λ f. ⊎_elim (λ e. along e (close k)) (λ g. refuses (both_no _ _ off f (test_false (eq_test b 93) g))) (answer (eq_test b 93))) (digits b)
 move (closed k j n) b = ⊎_elim (λ e. over (steps (kind k) j n) (whole_step k) e) (λ g. refuses (ap (λ (t : Bool). cond t (stand 1 0 0 0) off) (test_false (eq_test b 32) g))) (answer (eq_test b 32))
 
--- ---- the text of events, with a blank after each
-
 abbrev led : History → List ℕ
 led [] = []
 led (e ∷ h) = symbol e ++ (32 ∷ led h)
@@ -311,12 +312,12 @@ led_more : (h : History) (e : Event) → led (h ++ e ∷ []) ≡ led h ++ (symbo
 led_more [] e = refl
 led_more (x ∷ h) e = ap (λ (l : List ℕ). symbol x ++ (32 ∷ l)) (led_more h e) ∙ sym (append_assoc (symbol x) (32 ∷ led h) (symbol e ++ (32 ∷ [])))
 
+-- ---- a beginning that has been read
+
 text_more : (h : History) (e : Event) → text_of (h ++ e ∷ []) ≡ led h ++ symbol e
 text_more [] e = refl
 text_more (x ∷ []) e = sym (append_assoc (symbol x) (32 ∷ []) (symbol e))
 text_more (x ∷ y ∷ h) e = ap (λ (l : List ℕ). symbol x ++ (32 ∷ l)) (text_more (y ∷ h) e) ∙ sym (append_assoc (symbol x) (32 ∷ led (y ∷ h)) (symbol e))
-
--- ---- a beginning that has been read
 
 -- the bytes u say the events g and a symbol as far as the spot x, and a text that begins so is read on from there
 record Reached (u : List ℕ) (g : History) (x : Spot) : Type 0 where
@@ -349,6 +350,8 @@ on_goes g p v (bracket k) = refl
 on_goes g p v (first_of_cell k q) = refl
 on_goes g p v (more_of_cell k i q r) = refl
 on_goes g p v (close k) = refl
+
+-- ---- it can be gone on with
 
 module _ {u : List ℕ} {g : History} {x : Spot} (r : Reached u g x) where
   -- the reading of one byte more
@@ -385,8 +388,6 @@ module _ {u : List ℕ} {g : History} {x : Spot} (r : Reached u g x) where
   -- a byte that is refused: so is every text that goes on so
   refused_on : (b : ℕ) → next (at x) b ≡ off → (v : List ℕ) → parse ((u ++ b ∷ []) ++ v) ≡ wrong (length u)
   refused_on b n v = taken_on b v ∙ ap (on_with g (at x) (length u) v) n
-
--- ---- it can be gone on with
 
 abbrev event_with : Letter → ℕ → Event
 event_with for_open j = opens j
@@ -443,6 +444,8 @@ fit_completed g (bracketed k j) f = sayable_way k (f, omega arith)
 fit_completed g (in_Cell k j n) f = sayable_way k f
 fit_completed g (closed k j n) f = sayable_way k f
 
+-- ---- every text of the form is read
+
 begins : {u : List ℕ} {g : History} {x : Spot} → Reached u g x → Begins u
 begins {u} {g} {x} r =
     let e = whole_of x in (
@@ -458,8 +461,6 @@ begins {u} {g} {x} r =
         },
       ),
     )
-
--- ---- every text of the form is read
 
 data Starts : Spot → Type 0 where
   at_start : Starts start
@@ -528,10 +529,10 @@ unfolding parse_end
 parse_text [] f = reached_start.taken []
 parse_text (e ∷ h) f = text_read at_start reached_start e h f
 
+-- ---- every text: it is refused at a byte, or read to its end
+
 pub parse_says : {t : List ℕ} {h : History} → Says t h → parse t ≡ says h
 parse_says {t} {h} s = ap parse s.text ∙ parse_text h s.sayable
-
--- ---- every text: it is refused at a byte, or read to its end
 
 data Outcome (t : List ℕ) : Type 0 where
   refused_at : (u v : List ℕ) (b : ℕ) {g : History} {x : Spot} → t ≡ (u ++ b ∷ []) ++ v → Reached u g x → next (at x) b ≡ off → Outcome t
@@ -556,6 +557,8 @@ data End (x : Spot) : Type 0 where
   whole : (e : Event) → Whole x e → End x
   short : ((g : History) (p : ℕ) → parse_end g (at x) p ≡ wrong p) → End x
 
+-- ---- what it is read as
+
 end_of : (x : Spot) → End x
 unfolding parse_end whole_at with_cell
 end_of start = nothing refl
@@ -569,14 +572,10 @@ end_of (bracketed k j) = short (λ g p. refl)
 end_of (in_Cell k j n) = short (λ g p. refl)
 end_of (closed k j n) = whole (steps (kind k) j n) (whole_step k)
 
--- ---- what it is read as
-
-pub data Read (t : List ℕ) : Parsed → Type 0 where
-  said : {h : History} → Says t h → Read t (says h)
-  gone_wrong : {p : ℕ} → Wrong t p → Read t (wrong p)
-
 not_both : {t : List ℕ} {h : History} {p : ℕ} → Says t h → parse t ≡ wrong p → ⊥
 not_both {t} {h} {p} s w = let q = parse_says s in let z : ◌≡◌ {A = ℕ} 0 1 = cc in omega arith
+
+-- ---- exactly
 
 pub parse_right : (t : List ℕ) → Read t (parse t)
 parse_right t = go (outcome [] t reached_start)
@@ -610,8 +609,6 @@ parse_right t = go (outcome [] t reached_start)
     go : Outcome t → Read t (parse t)
     go (refused_at u v b s r n) = subst (Read t) (sym (ap parse s ∙ refused_on r b n v)) (gone_wrong (refused_there u v b s r n))
     go (read_through {x = x} r) = through r (end_of x)
-
--- ---- exactly
 
 -- a beginning of a beginning is one
 begins_less : (t : List ℕ) (n : ℕ) → Begins t → Begins (take n t)

@@ -16,6 +16,7 @@ use Rattle.notation.specs.Answers.{import, export, written, Bytes, Imported, Exp
 use Rattle.notation.proofs.ParseLaws.{says_once}
 use Rattle.notation.specs.ReadLaws.{read_is}
 use Rattle.notation.proofs.TextLaws.{import_right, export_right, import_wrong, fault_other, not_formed, twenty_six, wrong_there, too_long, eleven, refuses_add, twenty_seven, makes_text, text_made, says_none, imported_back, exported_back, import_nothing, export_nothing, export_short, wrong_inside, add_inside, log_short}
+use Rattle.notation.specs.Promises.{SmallExport, SmallImport}
 
 -- ---- what an answer means, code by code
 
@@ -45,11 +46,11 @@ pub exports_exactly : (log lent : List ℕ)
     → ((export log lent).code ≡ 0) ↔ ((h : History) × (read_log log ≡ events h) × NoAdd h × (length (text_of (without_abandoned h)) ≤ length lent))
 exports_exactly log lent = (text_made log lent, λ s. ap (λ (a : Filled). a.code) (makes_text log lent s.1 s.2 s.3))
 
+-- ---- there and back
+
 -- no text says an add
 pub texts_no_add : {text : List ℕ} {h : History} → Says text h → NoAdd h
 texts_no_add = says_none
-
--- ---- there and back
 
 -- a log that is read is the log of its history
 pub log_is : (log : List ℕ) (h : History) → Bytes log → read_log log ≡ events h → log ≡ log_of h
@@ -72,11 +73,11 @@ empty_imported = import_nothing
 pub empty_exported : (lent : List ℕ) → export [] lent ≡ done [] lent
 empty_exported = export_nothing
 
+-- ---- a refusal leaves the lent bytes as they were
+
 -- a text says one history
 pub texts_apart : {text : List ℕ} {h k : History} → Says text h → Says text k → h ≡ k
 texts_apart = says_once
-
--- ---- a refusal leaves the lent bytes as they were
 
 pub import_refusal_leaves : (text lent : List ℕ) → ((import text lent).code ≡ 0 → ⊥) → (import text lent).bytes ≡ lent
 import_refusal_leaves text lent f = go (import_right text lent) f
@@ -87,6 +88,8 @@ import_refusal_leaves text lent f = go (import_right text lent) f
     go (Imported.no_room s r l) g = refl
     go (Imported.imports s r l) g = absurd (g refl)
 
+-- ---- codes and places
+
 pub export_refusal_leaves : (log lent : List ℕ) → ((export log lent).code ≡ 0 → ⊥) → (export log lent).bytes ≡ lent
 export_refusal_leaves log lent f = go (export_right log lent) f
   where
@@ -96,14 +99,6 @@ export_refusal_leaves log lent f = go (export_right log lent) f
     go (Exported.no_room r f l) g = refl
     go (Exported.exports r f l) g = absurd (g refl)
 
--- ---- codes and places
-
--- a place of import is at most 32,768, but that of 26 can be as high as the text is long
-pub record SmallImport (text : List ℕ) (a : Filled) : Type 0 where
-  pub code : a.code ≤ 26
-  pub place : (a.code ≡ 26 → ⊥) → a.place ≤ 32_768
-  pub of_form : a.code ≡ 26 → a.place ≤ length text
-
 pub import_small : (text lent : List ℕ) → SmallImport text (import text lent)
 import_small text lent = go (import_right text lent)
   where
@@ -112,11 +107,6 @@ import_small text lent = go (import_right text lent)
     go (Imported.bad_log {h = h} s r) = let k = fault_other (log_of h) r in record { code = omega arith; place = λ f. omega arith; of_form = λ e. absurd (omega arith) }
     go (Imported.no_room s r l) = record { code = omega arith; place = λ f. omega arith; of_form = λ e. absurd (omega arith) }
     go (Imported.imports {h = h} s r l) = let k = log_short h r in record { code = omega arith; place = λ f. k; of_form = λ e. absurd (let y : ◌≡◌ {A = ℕ} 0 26 = e in omega arith) }
-
--- a place of export is at most 69,631
-pub record SmallExport (a : Filled) : Type 0 where
-  pub code : a.code ≤ 27
-  pub place : a.place ≤ 69_631
 
 pub export_small : (log lent : List ℕ) → Bytes log → SmallExport (export log lent)
 export_small log lent b = go (export_right log lent)

@@ -18,7 +18,8 @@ use Rattle.blocks.proofs.RunLaws.{fills, fills_not}
 use Rattle.notation.specs.Notation.{on_cell, symbol, text_of, Says, Form, Wrong, no_such_byte, stops_short, without_abandoned, NoAdd, FirstAdd}
 use Rattle.notation.specs.Parse.{Parsed, wrong, says, parse, parse_end}
 use Rattle.notation.specs.Answers.{imported, import_of, import, before_adds, exported, export_of, export, written, Bytes, Imported, Exported}
-use Rattle.notation.proofs.ParseLaws.{Read, said, gone_wrong, parse_right, parse_says, wrong_exactly, wrong_not_form, form_or_wrong}
+use Rattle.notation.specs.ParseLaws.{Read, said, gone_wrong}
+use Rattle.notation.proofs.ParseLaws.{parse_right, parse_says, wrong_exactly, wrong_not_form, form_or_wrong}
 use Rattle.notation.specs.FirstAddLaws.{Found, none, first, found, first_is, none_is}
 use Rattle.notation.specs.LeftOutLaws.{left_turns, left_sized, Plain, plain_sayable, left_from, left_plain, whole_left}
 use Rattle.notation.specs.ReadLaws.{read_sized, read_same}

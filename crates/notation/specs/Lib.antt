@@ -5,3 +5,5 @@ pub mod Cases
 pub mod FirstAddLaws
 pub mod LeftOutLaws
 pub mod ReadLaws
+pub mod ParseLaws
+pub mod Promises

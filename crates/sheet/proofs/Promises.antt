@@ -3,7 +3,7 @@
 -- To be believed for them: Sheet (at rest, the sheet, its answer), and what the promises of history and verdicts need. In order: which jobs are on the sheet, and in which order; that it
 -- will not move; the answer on bytes.
 -- Assumes nothing.
-use Rattle.std.specs.Prelude.{◌≡◌, refl, ◌↔◌, List, [], ◌++◌, ℕ, ◌≤◌, length, drop}
+use Rattle.std.specs.Prelude.{◌≡◌, refl, ◌↔◌, List, [], ◌++◌, ℕ, ◌≤◌, length}
 use Rattle.std.proofs.Common.{sym, ap, ◌∙◌, append-nil, arith, length-append}
 use Rattle.std.proofs.Math.Path.{subst}
 use Rattle.std.proofs.Math.Option.{some}
@@ -18,11 +18,13 @@ use Rattle.history_laws.specs.OrderLaws.{order_accepted, order_exists}
 use Rattle.history_laws.specs.Granted.{granted_sound}
 use Rattle.verdicts.specs.Logs.{Reading, events, most_jobs, read_log, log_of}
 use Rattle.verdicts_laws.specs.LogLaws.{read_turns, opened_length, granted_read}
-use Rattle.verdicts.specs.Verdicts.{check, Listed}
+use Rattle.verdicts.specs.Verdicts.{Listed}
 use Rattle.verdicts_laws.specs.VerdictLaws.{check_exactly}
 use Rattle.sheet.specs.Sheet.{AtRest, at_rest, resting, sheet_of, sheet_in, list_sheet}
 use Rattle.sheet.proofs.RestLaws.{resting_exactly, resting_once, all_rest, rest_stays, sheet_first}
-use Rattle.sheet.proofs.SheetLaws.{sheet_lowest, sheet_exists, lowest_sheet, sheet_length, sheet_left, SheetAs, no_room, no_order, a_sheet, sheeted_right, Morning, log_faulty, log_read, sheet_right, morning_only, sheet_small, goes_on}
+use Rattle.sheet.specs.SheetLaws.{SheetAs, no_room, no_order, a_sheet, Morning, log_faulty, log_read}
+use Rattle.sheet.proofs.SheetLaws.{sheet_lowest, sheet_exists, lowest_sheet, sheet_length, sheet_left, sheeted_right, sheet_right, morning_only, sheet_small, goes_on}
+use Rattle.sheet.specs.Promises.{Names, WillNotMove}
 
 -- ---- the sheet
 
@@ -32,11 +34,6 @@ rest_exactly = resting_exactly
 
 pub rest_once : (h : History) → Turns h → Once (resting h)
 rest_once = resting_once
-
--- the sheet names exactly the jobs at rest, each once
-pub record Names (h : History) (s : List ℕ) : Type 0 where
-  pub once : Once s
-  pub names : (j : ℕ) → (j ∈ s) ↔ AtRest h j
 
 pub sheet_names : (h : History) → Turns h → (s : List ℕ) → sheet_of h ≡ some s → Names h s
 sheet_names h t s e =
@@ -57,12 +54,12 @@ sheet_there = sheet_exists
 pub sheet_in_order : (h : History) → Turns h → (o : List ℕ) → order_of h ≡ some o → sheet_of h ≡ some (only (at_rest h) o)
 sheet_in_order h t o = sheet_left h t
 
+-- ---- it will not move
+
 -- with no job open it is the whole order
 pub sheet_is_order : (h : History) → open_now h ≡ [] → sheet_of h ≡ order_of h
 unfolding sheet_of order_of
 sheet_is_order h none_open = ap (lowest_first (precedes (kept_steps h))) (all_rest h none_open)
-
--- ---- it will not move
 
 -- of a history in turn and any events that follow it in turn and leave no circle: the longer history has an accepted order that starts with the sheet of the shorter one
 pub sheet_stays : (h : History) (es : List Event) → Turns (h ++ es) → (Circular (kept_steps (h ++ es)) → ⊥) → (s : List ℕ) → sheet_of h ≡ some s
@@ -79,6 +76,8 @@ sheet_begins h t free s e =
 pub rest_for_good : (h : History) (es : List Event) → Turns (h ++ es) → (j : ℕ) → AtRest h j → AtRest (h ++ es) j
 rest_for_good h es t j = rest_stays h es t
 
+-- ---- the answer on bytes
+
 -- what the first profile granted, and all that it grants after it
 pub granted_stays : (first : ℕ) (rs rs' : List Request) → (s : List ℕ) → sheet_of (history_of first rs) ≡ some s → (rest : List ℕ) × Accepted (history_of first (rs ++ rs')) (s ++ rest)
 granted_stays first rs rs' s e =
@@ -86,8 +85,6 @@ granted_stays first rs rs' s e =
     let w = granted_sound first (rs ++ rs') in
     subst (λ (x : History). (rest : List ℕ) × Accepted x (s ++ rest)) (sym g.1)
     (sheet_first (history_of first rs) g.0 (subst Turns g.1 w.turns) (subst (λ (x : History). Circular (kept_steps x) → ⊥) g.1 w.no_circle) e)
-
--- ---- the answer on bytes
 
 -- for any bytes and any lent list, code by code, with what then stands in the list
 pub sheet_means : (bytes lent : List ℕ) → Morning bytes lent (list_sheet bytes lent)
@@ -143,11 +140,11 @@ refusal_leaves bytes lent f = kept_list (sheet_right bytes lent) f
     kept_list (log_faulty e) g = refl
     kept_list (log_read e t l) g = same l g
 
+-- ---- the answer for a log that the first profile granted
+
 -- the place of any answer is at most 4,095
 pub sheet_place_small : (bytes lent : List ℕ) → (list_sheet bytes lent).place ≤ 4095
 sheet_place_small bytes lent = (sheet_small bytes lent).place_small
-
--- ---- the answer for a log that the first profile granted
 
 -- within the sizes: with room the sheet is given, at its front, the entries past it as they were
 pub granted_sheet : (first : ℕ) (rs : List Request) (lent : List ℕ) → length (history_of first rs) ≤ 4096 → length (opened (history_of first rs)) ≤ most_jobs
@@ -170,14 +167,6 @@ granted_never_17 first rs lent few few_jobs z = let h = history_of first rs in d
         let r = order_exists (history_of first rs) s.turns s.no_circle in
         f r.0 (order_accepted (history_of first rs) s.turns r.1)
     denied (a_sheet l y w n) q = let y : ◌≡◌ {A = ℕ} 0 17 = q in omega arith
-
--- the whole promise, on bytes: what is given for the log of granted requests begins a list that the checker accepts for the log of those and any more, while the longer log is within the sizes
-pub record WillNotMove (first : ℕ) (rs rs' : List Request) (lent : List ℕ) : Type 0 where
-  pub sheet : List ℕ
-  pub names : Names (history_of first rs) sheet
-  pub given : list_sheet (log_of (history_of first rs)) lent ≡ record { code = 0; place = length sheet; list = sheet ++ drop (length sheet) lent }
-  pub rest : List ℕ
-  pub accepted : (check (log_of (history_of first (rs ++ rs'))) (sheet ++ rest)).code ≡ 0
 
 pub will_not_move : (first : ℕ) (rs rs' : List Request) (lent : List ℕ) → length (history_of first (rs ++ rs')) ≤ 4096 → length (opened (history_of first (rs ++ rs'))) ≤ most_jobs
     → length (resting (history_of first rs)) ≤ length lent → WillNotMove first rs rs' lent

@@ -3,7 +3,7 @@
 -- at rest (`all_rest`). Of a history that goes on: what precedes a job that had ended did so then (`comes_before`), so a job at rest stays at rest (`rest_stays`), and an order
 -- of the jobs at rest can be followed by an order of the others (`sheet_first`).
 -- Assumes nothing.
-use Rattle.std.specs.Prelude.{◌≡◌, ◌⊎◌, ◌↔◌, not, ℕ}
+use Rattle.std.specs.Prelude.{◌≡◌, ◌↔◌, not, ℕ}
 use Rattle.std.proofs.Common.{sym, ⊎_elim, arith}
 use Rattle.std.proofs.Math.Path.{subst}
 use Rattle.std.proofs.Math.Option.{some}
@@ -25,6 +25,7 @@ use Rattle.history_laws.specs.OrderLaws.{ends_kept, forward_accepted}
 use Rattle.history_laws.specs.TimeLaws.{Goes, by_steps, by_time, precedes_goes, goes_precedes}
 use Rattle.verdicts_laws.specs.VerdictLaws.{kept_once}
 use Rattle.sheet.specs.Sheet.{Leads, AtRest, leads, at_rest, resting, sheet_of}
+use Rattle.sheet.specs.RestLaws.{Moving}
 
 -- ---- the tests are right
 
@@ -66,12 +67,6 @@ module _ (h : History) (turns : Turns h) where
         unled = λ k m w. r.unled k m (join w tt (one p));
       }
 
--- a set of jobs that has the open ones and, with a job, every job that it precedes, and no more than that
-pub record Moving (h : History) (M : ℕ → Type 0) : Type 0 where
-  pub open_in : (i : ℕ) → i ∈ open_now h → M i
-  pub passes_on : (i j : ℕ) → M i → Precedes (kept_steps h) i j → M j
-  pub no_more : (j : ℕ) → M j → (j ∈ open_now h) ⊎ ((i : ℕ) × (i ∈ open_now h) × Leads h i j)
-
 -- the kept jobs that are not in it are those at rest
 pub rest_unmoved : {h : History} {M : ℕ → Type 0} → Moving h M → (j : ℕ) → j ∈ kept h → AtRest h j ↔ (M j → ⊥)
 rest_unmoved {h} {M} v j m = (
@@ -83,6 +78,8 @@ rest_unmoved {h} {M} v j m = (
     along {i} {j} k (one p) = v.passes_on i j k p
     along {i} k (step {m = x} p n w) = along (v.passes_on i x k p) w
 
+-- ---- a history that goes on
+
 -- where no job is open, every kept job is at rest
 pub all_rest : (h : History) → open_now h ≡ [] → resting h ≡ kept h
 unfolding resting
@@ -93,8 +90,6 @@ all_rest h none_open = only_all (at_rest h) (kept h) (λ j m. (rest_test h j).sh
 
     has_ended : (j : ℕ) → j ∈ kept h → j ∈ ended h
     has_ended j m = ⊎_elim (λ n. n) (λ n. absurd (is_open (open_if h m n))) (answer (has_test (ended h) j))
-
--- ---- a history that goes on
 
 module _ (h : History) (es : List Event) where
   pub ended_on : {j : ℕ} → j ∈ ended h → j ∈ ended (h ++ es)
@@ -128,6 +123,8 @@ not_opened h (e ∷ es) o t {j} m n =
 in_front : (h : History) {es : List Event} {a b : Event} → (b ∈ es → ⊥) → Before a b (h ++ es) → Before a b h
 in_front h f r = ⊎_elim (λ q. q) (⊎_elim (λ q. absurd (f q.1)) (λ q. absurd (f (before_right q)))) (before_append h r)
 
+-- ---- the sheet first
+
 module _ (h : History) (es : List Event) (turns : Turns (h ++ es)) where
   pub front : Turns h
   front = (turns_split [] h es turns).0
@@ -153,8 +150,6 @@ module _ (h : History) (es : List Event) (turns : Turns (h ++ es)) where
   -- and a job at rest stays at rest
   pub rest_stays : {j : ℕ} → AtRest h j → AtRest (h ++ es) j
   rest_stays r = record { has_ended = ended_on h es r.has_ended; unled = λ i m w. (open_from (h ++ es) m).1 (ended_on h es (led_by_rest r w).has_ended) }
-
--- ---- the sheet first
 
 -- the jobs of l that are not in c
 abbrev others : List ℕ → List ℕ → List ℕ

@@ -25,8 +25,11 @@ use Rattle.verdicts.specs.Verdicts.{Listed, refused, written}
 use Rattle.verdicts_laws.specs.SizeLaws.{LogSize, log_size, fault_known, Small}
 use Rattle.sheet.specs.Sheet.{at_rest, resting, sheet_of, of_whole, sheeted, sheet_in, list_sheet}
 use Rattle.sheet.proofs.RestLaws.{rest_test, resting_once, rest_before}
+use Rattle.sheet.specs.SheetLaws.{Morning, SheetAs, a_sheet, log_faulty, log_read, no_order, no_room}
 
 -- ---- the sheet
+
+-- ---- the sheet within the whole order
 
 module _ (h : History) where
   pub sheet_lowest : {s : List ℕ} → sheet_of h ≡ some s → LowestFirst (Precedes (kept_steps h)) (resting h) s
@@ -42,8 +45,6 @@ module _ (h : History) where
 
   pub sheet_length : Turns h → {s : List ℕ} → LowestFirst (Precedes (kept_steps h)) (resting h) s → length s ≡ length (resting h)
   sheet_length turns w = let f = lowest_forward w in once_length f.once (resting_once h turns) f.named f.names
-
--- ---- the sheet within the whole order
 
 -- jobs that whoever precedes one of them is among: in the lowest-first order of all, left to themselves, they stand in their own
 module _ {E : ℕ → ℕ → Type 0} (p : ℕ → Bool) (closed : (i j : ℕ) → T (p j) → E i j → T (p i)) where
@@ -68,20 +69,13 @@ module _ {E : ℕ → ℕ → Type 0} (p : ℕ → Bool) (closed : (i j : ℕ) �
           (subst (λ (x : List ℕ). LowestFirst E x (only p o)) (struck j l) v)
       go false e v = subst (λ (x : List ℕ). LowestFirst E x (only p o)) (passed_over j l (false_is e)) v
 
+-- ---- the answer
+
 -- so the sheet is what is left of the whole order when the jobs that are not at rest are struck out
 pub sheet_left : (h : History) → Turns h → {o : List ℕ} → order_of h ≡ some o → sheet_of h ≡ some (only (at_rest h) o)
 sheet_left h turns {o} e =
     lowest_sheet h (accepted_no_circle h turns (order_accepted h turns e)) (unfold resting in
     lowest_closed (at_rest h) (λ i j t p. (rest_test h i).shows (rest_before h turns ((rest_test h j).holds t) p)) (order_lowest h turns e))
-
--- ---- the answer
-
--- what an answer says, code by code
-pub data SheetAs (h : History) (lent : List ℕ) : Listed → Type 0 where
-  no_room : length lent < length (resting h) → SheetAs h lent (refused 18 (length (resting h)) lent)
-  no_order : length (resting h) ≤ length lent → ((o : List ℕ) → Accepted h o → ⊥) → SheetAs h lent (refused 17 0 lent)
-  a_sheet : {o s : List ℕ} → length (resting h) ≤ length lent → Accepted h o → LowestFirst (Precedes (kept_steps h)) (resting h) s → length s ≡ length (resting h)
-      → SheetAs h lent (record { code = 0; place = length s; list = s ++ drop (length s) lent })
 
 module _ (h : History) (turns : Turns h) (lent : List ℕ) where
   with_sheet : {o : List ℕ} (s : Option (List ℕ)) → sheet_of h ≡ s → Accepted h o → length (resting h) ≤ length lent → SheetAs h lent (written s lent)
@@ -98,10 +92,7 @@ module _ (h : History) (turns : Turns h) (lent : List ℕ) where
       by_test (λ b. SheetAs h lent (cond b (refused 18 (length (resting h)) lent) (written (of_whole (order_of h) (sheet_of h)) lent))) (lt_test (length lent) (length (resting h)))
       no_room (λ f. with_whole (order_of h) refl (let g : (length lent < length (resting h)) → ⊥ = f in omega arith))
 
--- the answer on bytes: a fault of the log, or the answer on its events
-pub data Morning (bytes lent : List ℕ) : Listed → Type 0 where
-  log_faulty : {c p : ℕ} → read_log bytes ≡ faulty c p → Morning bytes lent (refused c p lent)
-  log_read : {h : History} {a : Listed} → read_log bytes ≡ events h → Turns h → SheetAs h lent a → Morning bytes lent a
+-- ---- no other answer
 
 pub sheet_right : (bytes lent : List ℕ) → Morning bytes lent (list_sheet bytes lent)
 unfolding list_sheet
@@ -110,8 +101,6 @@ sheet_right bytes lent = go (read_log bytes) refl
     go : (g : Reading) → read_log bytes ≡ g → Morning bytes lent (sheet_in g lent)
     go (faulty c p) e = log_faulty e
     go (events h) e = let t = read_turns bytes h e in log_read e t (sheeted_right h t lent)
-
--- ---- no other answer
 
 -- two answers that mean what they say are one
 as_only : (h : History) (lent : List ℕ) {a b : Listed} → SheetAs h lent a → SheetAs h lent b → a ≡ b
@@ -125,18 +114,20 @@ as_only h lent (a_sheet k x w n) (no_room l) = absurd (omega arith)
 as_only h lent (a_sheet {o = o} k x w n) (no_order l f) = absurd (f o x)
 as_only h lent (a_sheet k x w n) (a_sheet l y v m) = ap (λ (s : List ℕ). record { code = 0; place = length s; list = s ++ drop (length s) lent }) (lowest_only w v)
 
+-- ---- code and place are small
+
 -- whatever answer means that of a log and a lent list is this one
 pub morning_only : (bytes lent : List ℕ) {a : Listed} → Morning bytes lent a → a ≡ list_sheet bytes lent
 unfolding list_sheet
 morning_only bytes lent (log_faulty e) = sym (ap (λ (g : Reading). sheet_in g lent) e)
 morning_only bytes lent (log_read {h = h} e t l) = as_only h lent l (sheeted_right h t lent) ∙ sym (ap (λ (g : Reading). sheet_in g lent) e)
 
--- ---- code and place are small
-
 -- the jobs at rest are opened jobs
 resting_few : (bytes : List ℕ) (h : History) → LogSize bytes h → length (resting h) ≤ most_jobs
 unfolding resting kept
 resting_few bytes h w = le_trans (only_length (at_rest h) (kept h)) (le_trans (only_length (λ j. not (has (abandoned h) j)) (opened h)) w.few_jobs)
+
+-- ---- granted requests, and more of them
 
 pub sheet_small : (bytes lent : List ℕ) → Small 18 (list_sheet bytes lent).code (list_sheet bytes lent).place
 sheet_small bytes lent = go (sheet_right bytes lent)
@@ -149,8 +140,6 @@ sheet_small bytes lent = go (sheet_right bytes lent)
     go : {a : Listed} → Morning bytes lent a → Small 18 a.code a.place
     go (log_faulty e) = let k = fault_known bytes e in let a = k.upto in record { code_small = omega arith; place_small = k.place }
     go (log_read {h = h} e t j) = by_answer (log_size bytes h e) j
-
--- ---- granted requests, and more of them
 
 -- what is granted is put at the end of the history
 more_granted : (b : Book) (h : History) (rs : List Request) → (es : List Event) × (history_from b h rs ≡ h ++ es)

@@ -1,2 +1,5 @@
 pub mod Sheet
 pub mod Cases
+pub mod RestLaws
+pub mod SheetLaws
+pub mod Promises

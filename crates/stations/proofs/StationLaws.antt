@@ -29,6 +29,7 @@ use Rattle.held_laws.specs.HeldMoves.{nth_word, read_tab, leads_opened, word_ope
 use Rattle.held_laws.specs.HeldLaws.{set_end, own_inside, opened_own_at, opened_past_at, stepped_own_at, stepped_past_at, left_own_at, left_past_at, slot_from}
 use Rattle.stations.specs.Stations.{Station, station_0, station_1, station_2, station_of, Network, part, state, master, view, join, any, joined_leads, joined, asked, network_facts, one_moved, network_opened, network_stepped, network_left, network_ended, network_abandoned, with_slot, network_moved, fresh_network, network_after, Home}
 use Rattle.stations.specs.JoinLaws.{any_or, any_one, join_same, join_bit, join_const, join_cond, join_blank, join_or, join_and, join_without, join_more, some_join}
+use Rattle.stations.specs.StationLaws.{Moves}
 
 -- ---- the joined state read
 
@@ -77,6 +78,8 @@ module _ (n : Network) where
       ∙ ap (λ (b : Bool). any used || b) (sym (any_or altered (λ u. false)))
       ∙ sym (any_or used (λ u. altered u || false))
 
+-- ---- the views after a move
+
 -- a network whose leads and words, joined, are those of a state, and whose master has the rest of it
 joined_is : (m : Network) (h : Held) → length h.leads ≡ most_open → length h.sets ≡ all_words
     → ((i : ℕ) → i < most_open → joined_leads m i ≡ leads_at h i) → ((w : ℕ) → w < all_words → join (λ u. nth_word (view m u) w) ≡ nth_word h w)
@@ -85,8 +88,6 @@ unfolding joined leads_at
 joined_is m h a b l w e =
     ap₂ (state m) (sym (tab_of {n = most_open} {f = joined_leads m} {l = h.leads} a (λ i p. sym (l i p))))
     (sym (tab_of {n = all_words} {f = λ w. join (λ u. nth_word (view m u) w)} {l = h.sets} b (λ i p. sym (w i p)))) ∙ e
-
--- ---- the views after a move
 
 pub view_opened : (n : Network) (p s : ℕ) (u : Station) → view (network_opened n p s) u ≡ opened_at (view n u) p s
 unfolding network_opened opened_at number_at port_at
@@ -125,11 +126,11 @@ one_there k s c n station_0 = refl
 one_there k s c n station_1 = refl
 one_there k s c n station_2 = refl
 
+-- ---- an open and a slot that is left, joined
+
 pub view_stepped_there : (n : Network) (k : Kind) (s c : ℕ) → view (network_stepped n k s c) (station_of c) ≡ stepped_at (view n (station_of c)) k s c
 unfolding network_stepped
 view_stepped_there n k s c = one_there k s c n (station_of c)
-
--- ---- an open and a slot that is left, joined
 
 and_any : (b : Bool) (f : Station → Bool) → any (λ u. b && f u) ≡ b && any f
 and_any true f = refl
@@ -240,11 +241,11 @@ pub joined_ended : (n : Network) (s : ℕ) → s < most_open → joined (network
 unfolding network_ended ended_at
 joined_ended n s r = joined_left n (takes_over (joined n) s) s r
 
+-- ---- every station has marks of its own cells alone
+
 pub joined_abandoned : (n : Network) (s : ℕ) → s < most_open → joined (network_abandoned n s) ≡ abandoned_at (joined n) s
 unfolding network_abandoned abandoned_at
 joined_abandoned n s r = joined_left n (λ i. false) s r
-
--- ---- every station has marks of its own cells alone
 
 -- what a test that is equal to another says
 as_test : {a b : Bool} → a ≡ b → T a → T b
@@ -266,6 +267,8 @@ home_fresh first =
       own = λ u i a c p real t. absurd (false_is (ap (λ (x : Held). own_at x i a c) (view_fresh first u) ∙ fresh_cell first i (set_place a) c p (own_inside a c real)) t);
       past = λ u i a c p real t. absurd (false_is (ap (λ (x : Held). past_at x i a c) (view_fresh first u) ∙ fresh_cell first i (past_place + set_place a) c p (past_inside a c real)) t);
     }
+
+-- ---- a step, joined
 
 module _ {n : Network} (h : Home n) where
   pub home_opened : (p s : ℕ) → Home (network_opened n p s)
@@ -306,8 +309,6 @@ module _ {n : Network} (h : Home n) where
             (as_test (ap (λ (y : Held). past_at y i a c) (view_left n t s u) ∙ left_past_at (view n u) t s i q a c real) x)).1;
       }
 
--- ---- a step, joined
-
 -- what the station of the cell alone knows of it
 module _ {n : Network} (h : Home n) (k : Kind) (s c i : ℕ) (p : i < most_open) (real : c < cells) where
   own_known : (a : Aspect) → own_at (joined n) i a c ≡ own_at (view n (station_of c)) i a c
@@ -347,6 +348,8 @@ any_at station_2 b = refl
 
 one_more : (v : Station) (b : Bool) (f : Station → ℕ) (m : ℕ) → join (λ u. cond (at_one v b u) (bit_or (f u) m) (f u)) ≡ cond b (bit_or (join f) m) (join f)
 one_more v b f m = join_more (at_one v b) f m ∙ ap (λ (x : Bool). cond x (bit_or (join f) m) (join f)) (any_at v b)
+
+-- ---- the facts
 
 module _ (n : Network) (k : Kind) (s c : ℕ) where
   abbrev moved_one : Station → Network
@@ -425,8 +428,6 @@ module _ (n : Network) (k : Kind) (s c : ℕ) where
       rest : state n (stepped_at (joined n) k s c).leads (stepped_at (joined n) k s c).sets ≡ stepped_at (joined n) k s c
       rest = unfold stepped_at joined in refl
 
--- ---- the facts
-
 -- a test of chains that agrees with another at the slots there are finds the same chains
 reach_same : (e f : ℕ → ℕ → Bool) → ((i x : ℕ) → i < most_open → e i x ≡ f i x) → (ks : List ℕ) → ((k : ℕ) → k ∈ ks → k < most_open) → (p q : ℕ) → p < most_open
     → reach e ks p q ≡ reach f ks p q
@@ -445,6 +446,8 @@ unfolding slot_of
 slot_cases h j P z f =
     first_cases P (only (λ i. eqb (number_at h i) j) (open_slots h)) z
     (λ s m. let r = slot_from h (only_from (λ i. eqb (number_at h i) j) (open_slots h) m).0 in f s r.0 r.1)
+
+-- ---- the moves a request can make
 
 module _ {n : Network} (h : Home n) where
   back_joined : (k : Kind) (s c : ℕ) → s < most_open → c < cells → chain_back (asked n c) k s c ≡ chain_back (joined n) k s c
@@ -483,17 +486,10 @@ module _ {n : Network} (h : Home n) where
       same : (j : ℕ) → slot_of (master n) j ≡ slot_of (joined n) j
       same j = unfold slot_of open_slots open_at number_at joined in refl
 
--- ---- the moves a request can make
-
 -- a step leaves the master as it was
 pub stepped_master : (n : Network) (k : Kind) (s c : ℕ) → master (network_stepped n k s c) ≡ master n
 unfolding network_stepped
 stepped_master n k s c = one_state n k s c (station_of c) [] []
-
-pub record Moves (P : Network → Type 0) (n : Network) : Type 0 where
-  pub opens : (p s : ℕ) → s < most_open → T (bit n.free s) → n.next < numbers → P (network_opened n p s)
-  pub steps : (k : Kind) (s c : ℕ) → s < most_open → T (open_at (master n) s) → c < cells → P (network_stepped n k s c)
-  pub leaves : (t : ℕ → Bool) (s : ℕ) → s < most_open → T (open_at (master n) s) → ((i : ℕ) → T (t i) → T (open_at (master n) i)) → P (network_left n t s)
 
 module _ (P : Network → Type 0) (m : (n : Network) → P n → Moves P n) (n : Network) (p : P n) where
   kept_at : (j : ℕ) (f : ℕ → Network) → ((s : ℕ) → s < most_open → T (open_at (master n) s) → P (f s)) → P (with_slot (slot_of (master n) j) f n)
@@ -526,10 +522,10 @@ module _ (P : Network → Type 0) (m : (n : Network) → P n → Moves P n) (n :
       by_test (λ b. P (cond b (network_moved n (want r.kind) r.job r.cell) n)) (eq_test (code_of (network_facts n) r) 0)
       (λ z. moved_kept (want r.kind) r.job r.cell (passed (not (eqb r.byte1 0)) 0 _ z).1) (λ z. p)
 
+-- ---- a request, joined
+
 pub home_moves : {n : Network} → Home n → Moves Home n
 home_moves h = record { opens = λ p s q f small. home_opened h p s; steps = λ k s c q o real. home_stepped h k s c real; leaves = λ t s q o only_open. home_left h t s q }
-
--- ---- a request, joined
 
 module _ {n : Network} (h : Home n) where
   joined_at : (j : ℕ) (f : ℕ → Network) (g : ℕ → Held) → ((s : ℕ) → s < most_open → joined (f s) ≡ g s)

@@ -20,7 +20,9 @@ use Rattle.held.specs.Held.{Held, fresh_held, open_at, is_some, slot_of, opened_
 use Rattle.held_laws.specs.HeldExact.{held_exact}
 use Rattle.held_laws.specs.HeldBlank.{Ranges, ranges_moves, ranges_fresh, Blank, blank_moves, blank_fresh}
 use Rattle.stations.specs.Stations.{Station, station_of, Network, master, view, joined, network_facts, network_opened, network_stepped, network_ended, network_abandoned, with_slot, network_moved, fresh_network, network_answer, network_after, network_answers, network_after_all, Home}
-use Rattle.stations.proofs.StationLaws.{view_opened, view_stepped, view_stepped_there, view_left, view_fresh, home_fresh, home_moves, facts_joined, stepped_master, Moves, network_kept, joined_after, joined_fresh}
+use Rattle.stations.specs.StationLaws.{Moves}
+use Rattle.stations.proofs.StationLaws.{view_opened, view_stepped, view_stepped_there, view_left, view_fresh, home_fresh, home_moves, facts_joined, stepped_master, network_kept, joined_after, joined_fresh}
+use Rattle.stations.specs.StationPromises.{Everywhere, PublishedNetwork, ReachesAll, ReachesOne}
 
 -- ---- the answers
 
@@ -46,11 +48,11 @@ all_joined n h (r ∷ rs) = all_joined (network_after n r) (home_next n h r) rs 
 pub stations_exact : (first : ℕ) (rs : List Request) → network_answers (fresh_network first) rs ≡ replies first rs
 stations_exact first rs = all_answers (fresh_network first) (home_fresh first) rs ∙ ap (λ (x : Held). answers x rs) (joined_fresh first) ∙ held_exact first rs
 
+-- ---- what each station holds
+
 -- and the three hold together what the one scheduler holds, to the last bit
 pub stations_joined : (first : ℕ) (rs : List Request) → joined (network_after_all (fresh_network first) rs) ≡ after_all (fresh_held first) rs
 stations_joined first rs = all_joined (fresh_network first) (home_fresh first) rs ∙ ap (λ (x : Held). after_all x rs) (joined_fresh first)
-
--- ---- what each station holds
 
 kept_through : (P : Network → Type 0) → ((n : Network) → P n → Moves P n) → (n : Network) → P n → (rs : List Request) → P (network_after_all n rs)
 kept_through P m n p [] = p
@@ -62,10 +64,6 @@ home_after = home_next
 
 pub home_always : (first : ℕ) (rs : List Request) → Home (network_after_all (fresh_network first) rs)
 home_always first rs = kept_through Home (λ n. home_moves) (fresh_network first) (home_fresh first) rs
-
--- what every move of the one scheduler keeps, every station keeps
-abbrev pub Everywhere : (Held → Type 0) → Network → Type 0
-Everywhere P n = (u : Station) → P (view n u)
 
 everywhere_moves : (P : Held → Type 0) → ((h : Held) → P h → Rattle.held_laws.specs.HeldMoves.Moves P h) → (n : Network) → Everywhere P n → Moves (Everywhere P) n
 unfolding open_at
@@ -85,29 +83,18 @@ pub ranges_always : (first : ℕ) → first < 2 ^ 64 → (rs : List Request) →
 ranges_always first q rs =
     kept_through (Everywhere Ranges) (everywhere_moves Ranges (λ h. ranges_moves)) (fresh_network first) (λ u. subst Ranges (sym (view_fresh first u)) (ranges_fresh first q)) rs
 
+-- ---- whom a grant reaches
+
 pub blank_always : (first : ℕ) (rs : List Request) → Everywhere Blank (network_after_all (fresh_network first) rs)
 blank_always first rs =
     kept_through (Everywhere Blank) (everywhere_moves Blank (λ h. blank_moves)) (fresh_network first) (λ u. subst Blank (sym (view_fresh first u)) (blank_fresh first)) rs
-
--- ---- whom a grant reaches
 
 -- a slot that there is
 the_slot : (o : Option ℕ) → T (is_some o) → (s : ℕ) × (o ≡ some s)
 the_slot none t = absurd t
 the_slot (some s) t = (s, refl)
 
--- the slot of the job that asked, and that a request leaves at every station what is said of it
-pub record ReachesAll (n : Network) (r : Request) (f : ℕ → Held → Held) : Type 0 where
-  pub slot : ℕ
-  pub its_slot : slot_of (master n) r.job ≡ some slot
-  pub at_each : (u : Station) → view (network_after n r) u ≡ f slot (view n u)
-
--- a step leaves it at the station of its cell, and the others as they were
-pub record ReachesOne (n : Network) (r : Request) (f : ℕ → Held → Held) : Type 0 where
-  pub slot : ℕ
-  pub its_slot : slot_of (master n) r.job ≡ some slot
-  pub there : view (network_after n r) (station_of r.cell) ≡ f slot (view n (station_of r.cell))
-  pub others : (u : Station) → (station_of r.cell ≡ u → ⊥) → view (network_after n r) u ≡ view n u
+-- ---- refusals
 
 module _ (n : Network) (r : Request) (z : code_of (network_facts n) r ≡ 0) where
   granted_left : (w : Want) → want r.kind ≡ w → network_after n r ≡ network_moved n w r.job r.cell
@@ -164,21 +151,12 @@ module _ (n : Network) (r : Request) (z : code_of (network_facts n) r ≡ 0) whe
         others = λ u apart. ap (λ (x : Network). view x u) left ∙ ⊎_elim (λ v. absurd (apart v.0)) (λ v. v) (view_stepped n k o.0 r.cell u);
       }
 
--- ---- refusals
+-- ---- a publish
 
 -- a refusal leaves the master and every station as they were, to the last bit
 pub refusal_network : (n : Network) (r : Request) → ((network_answer n r).code ≡ 0 → ⊥) → network_after n r ≡ n
 unfolding network_answer network_after reply_of
 refusal_network n r f = ap (λ (b : Bool). cond b (network_moved n (want r.kind) r.job r.cell) n) (test_false (eq_test (code_of (network_facts n) r) 0) f)
-
--- ---- a publish
-
--- a publish (kind 6) gets the answer of the write (kind 3); granted, it leaves what the write and then the end (kind 4) leave, at the master and at every station; refused, it leaves
--- all as it was, as the write does
-pub record PublishedNetwork (n : Network) (r : Request) : Type 0 where
-  pub as_the_write : network_answer n (as_kind 6 r) ≡ network_answer n (as_kind 3 r)
-  pub both : code_of (network_facts n) (as_kind 6 r) ≡ 0 → network_after n (as_kind 6 r) ≡ network_after (network_after n (as_kind 3 r)) (as_kind 4 r)
-  pub neither : (code_of (network_facts n) (as_kind 6 r) ≡ 0 → ⊥) → (network_after n (as_kind 6 r) ≡ n) × (network_after n (as_kind 3 r) ≡ n)
 
 module _ (n : Network) (r : Request) where
   write_code : code_of (network_facts n) (as_kind 6 r) ≡ code_of (network_facts n) (as_kind 3 r)

@@ -24,6 +24,7 @@ use Rattle.held_laws.specs.HeldMoves.{nth_word, leads_stepped, word_stepped}
 use Rattle.held_laws.specs.HeldLaws.{stepped_open_at, stepped_leads_at, stepped_own_at, stepped_past_at, slot_from, slots_stepped}
 use Rattle.held_laws.specs.Seen.{slot_test}
 use Rattle.swaps.specs.Swaps.{clear, ChangePlaces, GivenAgain}
+use Rattle.swaps.specs.SwapLaws.{Clear, Grant}
 
 -- ---- marks added one after the other
 
@@ -69,15 +70,11 @@ more_swap true false n p q = refl
 more_swap false true n p q = refl
 more_swap false false n p q = refl
 
+-- ---- which slots a step touches after another
+
 more_again : (a : Bool) (n p : ℕ) → more a (more a n p) p ≡ more a n p
 more_again true n p = or_again n p
 more_again false n p = refl
-
--- ---- which slots a step touches after another
-
--- the steps of two slots are not in conflict: of one slot, or on two cells, or of kinds that do not clash
-abbrev pub Clear : Kind → ℕ → ℕ → Kind → ℕ → ℕ → Type 0
-Clear k s c l t d = (s ≡ t) ⊎ ((c ≡ d → ⊥) ⊎ (T (kinds_clash k l) → ⊥))
 
 clash_sym : (k l : Kind) → kinds_clash k l ≡ kinds_clash l k
 clash_sym read read = refl
@@ -112,6 +109,8 @@ without_gain true true g e = refl
 without_gain true false g e = e
 without_gain false m g e = refl
 
+-- ---- the same state in either order
+
 module _ (h : Held) (k : Kind) (s c : ℕ) (l : Kind) (t d : ℕ) (real : c < cells) (real' : d < cells) (apart : Clear k s c l t d) where
   module _ (i : ℕ) (p : i < most_open) where
     -- the cell that the slot's own gains is no matter to the other step
@@ -138,8 +137,6 @@ module _ (h : Held) (k : Kind) (s c : ℕ) (l : Kind) (t d : ℕ) (real : c < ce
         ∙ without_gain (not (eqb i t)) _ _ no_gain)
         (ap₂ (λ (x y : Bool). (shows l as_altered && x) || (shows l as_used && y)) (past as_used) (past as_altered))
 
--- ---- the same state in either order
-
 -- what a step leaves of the leads and of the words
 abbrev lead_rule : Held → Kind → ℕ → ℕ → ℕ → ℕ
 lead_rule h k s c i = more (open_at h i && touched h k s c i) (leads_at h i) (2 ^ s)
@@ -157,6 +154,8 @@ module _ (h : Held) (k : Kind) (s c : ℕ) (l : Kind) (t d : ℕ) (real : c < ce
 
   word_next : (w : ℕ) → w < all_words → word_rule (stepped_at h k s c) l t d w ≡ more (marks_word l t d w) (word_rule h k s c w) (2 ^ (d % word_marks))
   word_next w p = ap (λ (n : ℕ). more (marks_word l t d w) n (2 ^ (d % word_marks))) (word_stepped h s k c w p)
+
+-- ---- chains back
 
 module _ (h : Held) where
   -- a state that differs from h in leads and words alone
@@ -181,8 +180,6 @@ module _ (h : Held) where
       (λ i p. lead_next h k s c k s c real real (inl refl) i p ∙ more_again (open_at h i && touched h k s c i) (leads_at h i) (2 ^ s)))
       (tab_same all_words (word_rule (stepped_at h k s c) k s c) (word_rule h k s c)
       (λ w p. word_next h k s c k s c real real (inl refl) w p ∙ more_again (marks_word k s c w) (nth_word h w) (2 ^ (c % word_marks))))
-
--- ---- chains back
 
 module _ {J : Type 0} {E : J → J → Type 0} {P : J → Type 0} where
   -- a walk whose edges all start where P holds, and one whose inner jobs meet P, are the same, where its start does
@@ -269,6 +266,8 @@ module _ (h : Held) (k : Kind) (s c : ℕ) (l : Kind) (t d : ℕ) (real : c < ce
       (λ v. inr (back (⊎_elim (λ e. subst (λ (x : ℕ). Via All Any x t) (sym e) v.0) (λ u. join u tt v.0) v.1)))
       (passes brought w)
 
+-- ---- granted steps
+
 module _ (h : Held) (k : Kind) (s c : ℕ) (real : c < cells) where
   -- the same step again: a chain back was there before
   pub chain_again : s ∈ open_slots h → T (chain_back (stepped_at h k s c) k s c) → T (chain_back h k s c)
@@ -279,16 +278,6 @@ module _ (h : Held) (k : Kind) (s c : ℕ) (real : c < cells) where
       old_edge i x e =
           let m = was_open h k s c k s c real real (inl refl) e.0 in
           (m, subst T (edge_next h k s c k s c real real (inl refl) i x m ∙ again_or (bit (leads_at h i) x) (brings h k s c i x)) e.1)
-
--- ---- granted steps
-
--- what a granted step of slot s has been tested for
-pub record Grant (h : Held) (k : Kind) (r : Request) (s : ℕ) : Type 0 where
-  pub zero_byte : r.byte1 ≡ 0
-  pub real : r.cell < cells
-  pub meant : slot_of h r.job ≡ some s
-  pub is_open : s ∈ open_slots h
-  pub no_chain : T (chain_back h k s r.cell) → ⊥
 
 module _ (h : Held) (k : Kind) (r : Request) (asks : want r.kind ≡ a_step k) where
   pub grant_from : (answer_to h r).code ≡ 0 → (s : ℕ) × Grant h k r s
@@ -342,10 +331,12 @@ slot_stepped h k s c j = refl
 same_slot : {s t : ℕ} → some s ≡ some t → s ≡ t
 same_slot {s} {t} e = (eq_test s t).holds (subst (λ (o : Option ℕ). T (at_slot o (eqb s))) e ((eq_test s s).shows refl))
 
+-- ---- two granted requests
+
 pub clear_test : (k l : Kind) (a b : Request) → Decides (clear k l a b) ((a.job ≡ b.job) ⊎ ((a.cell ≡ b.cell → ⊥) ⊎ (T (kinds_clash k l) → ⊥)))
 clear_test k l a b = or_test (eq_test a.job b.job) (or_test (not_test (eq_test a.cell b.cell)) (not_test (own_test (kinds_clash k l))))
 
--- ---- two granted requests
+-- ---- one request twice
 
 module _ (h : Held) (k l : Kind) (a b : Request) (asks_a : want a.kind ≡ a_step k) (asks_b : want b.kind ≡ a_step l) (free : T (clear k l a b)) where
   module _ {s t : ℕ} (g : Grant h k a s) (g₁ : Grant (stepped_at h k s a.cell) l b t) where
@@ -401,7 +392,7 @@ module _ (h : Held) (k l : Kind) (a b : Request) (asks_a : want a.kind ≡ a_ste
       let g₁ = grant_from (stepped_at h k g.0 a.cell) l b asks_b (subst (λ (x : Held). (answer_to x b).code ≡ 0) (state_granted h k a asks_a g.1) zb) in
       swapped g.1 g₁.1
 
--- ---- one request twice
+-- ---- lists of requests, one after the other
 
 module _ (h : Held) (k : Kind) (a : Request) (asks : want a.kind ≡ a_step k) where
   again : {s : ℕ} → Grant h k a s → GivenAgain h a
@@ -422,8 +413,6 @@ module _ (h : Held) (k : Kind) (a : Request) (asks : want a.kind ≡ a_step k) w
 
   pub given_twice : (answer_to h a).code ≡ 0 → GivenAgain h a
   given_twice z = again (grant_from h k a asks z).1
-
--- ---- lists of requests, one after the other
 
 pub answers_append : (h : Held) (rs qs : List Request) → answers h (rs ++ qs) ≡ answers h rs ++ answers (after_all h rs) qs
 answers_append h [] qs = refl

@@ -16,7 +16,9 @@ use Rattle.history.specs.Turns.{Turns}
 use Rattle.history.specs.Orders.{Accepted, order_of}
 use Rattle.history_laws.specs.TimeLaws.{Goes, by_steps, by_time, precedes_goes, goes_precedes}
 use Rattle.history_laws.specs.OrderLaws.{accepted_forward, forward_accepted, order_lowest, lowest_order}
-use Rattle.swaps.proofs.SwapLaws.{Clear, clear_sym}
+use Rattle.swaps.specs.SwapLaws.{Clear}
+use Rattle.swaps.proofs.SwapLaws.{clear_sym}
+use Rattle.swaps.specs.SwapOrders.{granted_by, logged}
 
 -- ---- an event is one thing
 
@@ -39,13 +41,13 @@ kind_in (steps k j c) = k
 kind_in (ends j) = read
 kind_in (abandons j) = read
 
+-- ---- two neighbours of a history
+
 abbrev is_step : Event → Bool
 is_step (opens j) = false
 is_step (steps k j c) = true
 is_step (ends j) = false
 is_step (abandons j) = false
-
--- ---- two neighbours of a history
 
 -- what gathers nothing from either of the two gathers the same
 gather_swap : {X : Type 0} (f : Event → List X) (h : History) (e g : Event) (rest : History) → f e ≡ [] → f g ≡ [] → gather f (h ++ e ∷ g ∷ rest) ≡ gather f (h ++ g ∷ e ∷ rest)
@@ -112,6 +114,8 @@ lowest_same : {E F : ℕ → ℕ → Type 0} → ((m n : ℕ) → E m n → F m 
 lowest_same to from done = done
 lowest_same to from (next {j = j} m free least w) = next m (λ i k r. free i k (from i j r)) (λ i k r. least i k (λ n q x. r n q (to n i x))) (lowest_same to from w)
 
+-- ---- the history that requests leave, from their replies
+
 -- so the same orders are accepted
 module _ (h rest : History) (k : Kind) (i c : ℕ) (l : Kind) (j d : ℕ) (apart : Clear k i c l j d) where
   pub swapped_accepted : Turns (one_way h rest k i c l j d) → Turns (other_way h rest k i c l j d) → {o : List ℕ} → Accepted (one_way h rest k i c l j d) o → Accepted (other_way h rest k i c l j d) o
@@ -134,17 +138,6 @@ module _ (h rest : History) (k : Kind) (i c : ℕ) (l : Kind) (j d : ℕ) (apart
       lowest_order (other_way h rest k i c l j d) u
       (subst (λ (x : List ℕ). LowestFirst (Precedes (kept_steps (other_way h rest k i c l j d))) x o) (swapped_kept h rest k i c l j d)
       (lowest_same (swapped_precedes h rest k i c l j d apart) (swapped_precedes h rest l j d k i c (clear_sym k l apart)) (order_lowest (one_way h rest k i c l j d) t e)))
-
--- ---- the history that requests leave, from their replies
-
--- the events of a request that got the reply
-abbrev pub granted_by : Reply → Request → List Event
-granted_by a r = cond (eqb a.code 0) (event_of a.job (want r.kind) r.job r.cell) []
-
-abbrev pub logged : List Reply → List Request → List Event
-logged [] rs = []
-logged (a ∷ ps) [] = []
-logged (a ∷ ps) (r ∷ rs) = granted_by a r ++ logged ps rs
 
 -- the job that a grant names is all that its event needs
 event_named : (n : ℕ) (w : Want) (j c : ℕ) → event_of (job_of n w j) w j c ≡ event_of n w j c

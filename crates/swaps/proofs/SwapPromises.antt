@@ -19,8 +19,11 @@ use Rattle.history_laws.specs.Granted.{granted_sound}
 use Rattle.held.specs.Held.{Held, fresh_held, answer_to, after, answers, after_all}
 use Rattle.held_laws.specs.HeldExact.{held_exact}
 use Rattle.swaps.specs.Swaps.{clear, Apart, ChangePlaces, GivenAgain}
-use Rattle.swaps.proofs.SwapLaws.{Clear, clear_sym, clear_test, places_changed, given_twice, answers_append, after_append}
-use Rattle.swaps.proofs.SwapOrders.{logged, log_of, swapped_precedes, swapped_accepted, swapped_listed}
+use Rattle.swaps.specs.SwapLaws.{Clear}
+use Rattle.swaps.proofs.SwapLaws.{clear_sym, clear_test, places_changed, given_twice, answers_append, after_append}
+use Rattle.swaps.specs.SwapOrders.{logged}
+use Rattle.swaps.proofs.SwapOrders.{log_of, swapped_precedes, swapped_accepted, swapped_listed}
+use Rattle.swaps.specs.SwapPromises.{Granted, Neighbours, NeighboursSwapped}
 
 -- ---- apart
 
@@ -35,6 +38,8 @@ apart_exactly k l a b m n = (
       (answer (eq_test a.job b.job))),
 )
 
+-- ---- two steps change places
+
 -- and then the other way round too
 pub apart_back : {a b : Request} → Apart a b → Apart b a
 apart_back {a} {b} p =
@@ -45,8 +50,6 @@ apart_back {a} {b} p =
       asks_other = p.asks_one;
       no_conflict = (clear_test p.other p.one b a).shows (clear_sym p.one p.other ((clear_test p.one p.other a b).holds p.no_conflict));
     }
-
--- ---- two steps change places
 
 -- for any state, whatever it holds: a and then b are granted; then b and then a are, each with the reply that it got, and leave the same state
 pub change_places_any : (h : Held) (a b : Request) → Apart a b → (answer_to h a).code ≡ 0 → (answer_to (after h a) b).code ≡ 0 → ChangePlaces h a b
@@ -62,23 +65,13 @@ pub change_places : (first : ℕ) (rs : List Request) (a b : Request) → Apart 
     → ChangePlaces (after_all (fresh_held first) rs) a b
 change_places first rs = change_places_any (after_all (fresh_held first) rs)
 
+-- ---- a list with two neighbours swapped
+
 pub given_again : (first : ℕ) (rs : List Request) (k : Kind) (a : Request) → want a.kind ≡ a_step k
     → (answer_to (after_all (fresh_held first) rs) a).code ≡ 0 → GivenAgain (after_all (fresh_held first) rs) a
 given_again first rs = given_again_any (after_all (fresh_held first) rs)
 
--- ---- a list with two neighbours swapped
-
--- two requests that are apart stand side by side in a list, and both were granted: x and y are their answers and l those after them
-pub record Neighbours (h : Held) (rs : List Request) (a b : Request) (rest : List Request) (x y : Reply) (l : List Reply) : Type 0 where
-  pub apart : Apart a b
-  pub answered : answers h (rs ++ a ∷ b ∷ rest) ≡ answers h rs ++ x ∷ y ∷ l
-  pub one_granted : x.code ≡ 0
-  pub other_granted : y.code ≡ 0
-
--- swapped, each request of the list gets the answer that it got, and the list leaves the same state
-pub record NeighboursSwapped (h : Held) (rs : List Request) (a b : Request) (rest : List Request) (x y : Reply) (l : List Reply) : Type 0 where
-  pub answered : answers h (rs ++ b ∷ a ∷ rest) ≡ answers h rs ++ y ∷ x ∷ l
-  pub same_state : after_all h (rs ++ b ∷ a ∷ rest) ≡ after_all h (rs ++ a ∷ b ∷ rest)
+-- ---- the full history
 
 pub neighbours_swapped : {h : Held} {rs : List Request} {a b : Request} {rest : List Request} {x y : Reply} {l : List Reply}
     → Neighbours h rs a b rest x y l → NeighboursSwapped h rs a b rest x y l
@@ -98,15 +91,6 @@ neighbours_swapped {h} {rs} {a} {b} {rest} {x} {y} {l} n =
           (ap₂ (λ (r : Reply) (q : List Reply). r ∷ q) (c.one_reply ∙ is_x) (ap (λ (s : Held). answers s rest) c.same_state ∙ is_l)));
       same_state = after_append h rs (b ∷ a ∷ rest) ∙ ap (λ (s : Held). after_all s rest) c.same_state ∙ sym (after_append h rs (a ∷ b ∷ rest));
     }
-
--- ---- the full history
-
--- the same of the replies of the full history
-pub record Granted (first : ℕ) (rs : List Request) (a b : Request) (rest : List Request) (x y : Reply) (l : List Reply) : Type 0 where
-  pub apart : Apart a b
-  pub answered : replies first (rs ++ a ∷ b ∷ rest) ≡ replies first rs ++ x ∷ y ∷ l
-  pub one_granted : x.code ≡ 0
-  pub other_granted : y.code ≡ 0
 
 module _ {first : ℕ} {rs : List Request} {a b : Request} {rest : List Request} {x y : Reply} {l : List Reply} (g : Granted first rs a b rest x y l) where
   pub replies_swapped : replies first (rs ++ b ∷ a ∷ rest) ≡ replies first rs ++ y ∷ x ∷ l

@@ -1,3 +1,6 @@
 pub mod Swaps
 pub mod CoarseSwaps
 pub mod Cases
+pub mod SwapLaws
+pub mod SwapOrders
+pub mod SwapPromises

@@ -5,7 +5,7 @@ use borrow.Author.Rules.{rules}
 use lib.ListN.{replicate}
 use Rattle.history.specs.Formats.{request_of}
 use Rattle.slots.specs.Lent.{lent}
-use Rattle.batch.proofs.Laws.{Taken}
+use Rattle.batch.specs.Laws.{Taken}
 use Rattle.batch.proofs.RunLaws.{takes_step, takes_none}
 use Rattle.batch.proofs.step_item.Goals as goal
 
