@@ -41,18 +41,25 @@ pub fn read_full(input: &mut impl Read, buf: &mut [u8]) -> usize
     done
 }
 
-// Writes all of the bytes, and answers true; false where a write fails, and then some may have been written. Of no bytes there is no write.
-pub fn write_all(to: &impl Print, bytes: &[u8]) -> bool {
+// Writes all of the bytes, and answers true; false where a write fails, and then some may have been written. Of no bytes there is no write. What it answers is the
+// system's to say, so there is nothing to ensure.
+pub fn write_all(to: &impl Print, bytes: &[u8]) -> bool
+    ensures { Unit {0} }
+{
     to.write_all(bytes).is_ok()
 }
 
 // Writes the number in decimal, with no line end, and answers as write_all does.
-pub fn print_decimal(to: &impl Print, n: u64) -> bool {
+pub fn print_decimal(to: &impl Print, n: u64) -> bool
+    ensures { Unit {0} }
+{
     to.print(n).is_ok()
 }
 
-// How many arguments the program was started with, its own name among them.
-pub fn arg_count(rt: &impl Env) -> usize {
+// How many arguments the program was started with, its own name among them: the system's to say, too.
+pub fn arg_count(rt: &impl Env) -> usize
+    ensures { Unit {0} }
+{
     let mut start = [0u8; 1];
     for i in 0..usize::MAX {
         if let Err(FillError::NotPresent) = rt.arg(i, &mut start) {
