@@ -49,7 +49,7 @@ for name, text in files():
             place('1 enums', name, whole[:m.start()].count('\n') + 1, 'enum ' + n)
     for i, l in enumerate(code):
         # a flag with a value beside it; a number for a refusal or a kind; a number that stands for none
-        m = re.match(r'\s*(?:pub )?(room|fine|right|made): bool,', l)
+        m = re.match(r'\s*(?:pub )?(room|fine|right|made|is_left): bool,', l)
         if m: place('1 flags', name, i + 1, m.group(0).strip())
         m = re.match(r'\s*(?:pub )?code: u(32|64),', l)
         if m: place('1 codes', name, i + 1, m.group(0).strip())

@@ -15,11 +15,14 @@ use Rattle.cells.proofs.OneAnswer.{One}
 use Rattle.slots.proofs.OneAnswer.{one_part, one_answer}
 use Rattle.held.specs.Held.{Held}
 use Prim.Native.Nat.{ℕ}
-use Rattle.slots.specs.Lent.{lent}
-use Rattle.arbiter.specs.Replay.{Written, told}
-use Rattle.arbiter.specs.declared.Replayed.{Replayed}
-use Rattle.arbiter.specs.declared.Replayed.TheVariants.{Done, NoRoom}
+use Rattle.std.specs.Prelude.{Result, Ok, Err}
+use Rattle.arbiter.specs.Replay.{held_of, Written, told}
+use Rattle.arbiter.specs.declared.NoRoom.{NoRoom}
 use Rattle.arbiter.specs.declared.State.{State}
+use Rattle.arbiter.proofs.NoRoomTold.code.Kinds as no_room_code_kinds
+use Rattle.arbiter.proofs.NoRoomTold.code.Reads as no_room_code_reads
+use Rattle.arbiter.proofs.NoRoomTold.place.Kinds as no_room_place_kinds
+use Rattle.arbiter.proofs.NoRoomTold.place.Reads as no_room_place_reads
 use Rattle.arbiter.proofs.State.fresh.Kinds as fresh_kinds
 use Rattle.arbiter.proofs.State.fresh.Reads as fresh_reads
 use Rattle.arbiter.proofs.State.step.Kinds as step_kinds
@@ -28,10 +31,12 @@ use Rattle.arbiter.proofs.State.late_step.Kinds as late_step_kinds
 use Rattle.arbiter.proofs.State.late_step.Reads as late_step_reads
 use Rattle.arbiter.proofs.State.publish.Kinds as publish_kinds
 use Rattle.arbiter.proofs.State.publish.Reads as publish_reads
-use Rattle.arbiter.proofs.Replayed.code.Kinds as replayed_code_kinds
-use Rattle.arbiter.proofs.Replayed.code.Reads as replayed_code_reads
-use Rattle.arbiter.proofs.Replayed.place.Kinds as replayed_place_kinds
-use Rattle.arbiter.proofs.Replayed.place.Reads as replayed_place_reads
+use Rattle.arbiter.proofs.State.ask.Kinds as ask_kinds
+use Rattle.arbiter.proofs.State.ask.Reads as ask_reads
+use Rattle.arbiter.proofs.State.late_ask.Kinds as late_ask_kinds
+use Rattle.arbiter.proofs.State.late_ask.Reads as late_ask_reads
+use Rattle.arbiter.proofs.State.late_publish.Kinds as late_publish_kinds
+use Rattle.arbiter.proofs.State.late_publish.Reads as late_publish_reads
 use Rattle.arbiter.proofs.replay.Kinds as replay_kinds
 use Rattle.arbiter.proofs.replay.Reads as replay_reads
 use Rattle.arbiter.proofs.reedtangle_replay.Kinds as export_replay_kinds
@@ -50,56 +55,71 @@ use Rattle.arbiter.proofs.reedtangle_fresh.Reads as export_fresh_reads
 -- ---- states
 
 -- a state by value is the state that its arrays make
-one_state : {h : Held} (r s : State)
-    → lent r.next r.free r.numbers r.leads r.sets r.ports ≡ h
-    → lent s.next s.free s.numbers s.leads s.sets s.ports ≡ h
-    → r ≡ s
-one_state =
-    one_part (λ (r : State). lent r.next r.free r.numbers r.leads r.sets r.ports)
-    (λ h. record { next = h.next; free = h.free; numbers = h.numbers; leads = h.leads; sets = h.sets; ports = h.ports }) (λ r. refl)
+pub one_state : {h : Held} (r s : State) → held_of r ≡ h → held_of s ≡ h → r ≡ s
+one_state = one_part held_of (λ h. record { next = h.next; free = h.free; numbers = h.numbers; leads = h.leads; sets = h.sets; ports = h.ports }) (λ r. refl)
 
 pub one_fresh : One 0 fresh_kinds.ps fresh_kinds.r fresh_reads.Post
 one_fresh κs a x y s t p q = one_state x y p q
 
--- the step by value: the answer and the state
+-- in place: the answer, and the state at exit
+pub one_ask : (κs : Lfts 1) (a : Dens κs ask_kinds.ps) (x y : (res_t ask_kinds.r κs).Denot) (s t : AtExit (ended_of 1 ask_kinds.ps ask_kinds.r) κs)
+    → ask_reads.Post κs a x s
+    → ask_reads.Post κs a y t
+    → (x ≡ y) × (s.0.now ≡ t.0.now)
+one_ask κs a x y s t p q = (one_answer x y p.0 q.0, one_state s.0.now t.0.now p.1 q.1)
+
+pub one_late_ask : (κs : Lfts 1) (a : Dens κs late_ask_kinds.ps) (x y : (res_t late_ask_kinds.r κs).Denot) (s t : AtExit (ended_of 1 late_ask_kinds.ps late_ask_kinds.r) κs)
+    → late_ask_reads.Post κs a x s
+    → late_ask_reads.Post κs a y t
+    → (x ≡ y) × (s.0.now ≡ t.0.now)
+one_late_ask κs a x y s t p q = (one_answer x y p.0 q.0, one_state s.0.now t.0.now p.1 q.1)
+
+pub one_late_publish : (κs : Lfts 1) (a : Dens κs late_publish_kinds.ps) (x y : (res_t late_publish_kinds.r κs).Denot) (s t : AtExit (ended_of 1 late_publish_kinds.ps late_publish_kinds.r) κs)
+    → late_publish_reads.Post κs a x s
+    → late_publish_reads.Post κs a y t
+    → (x ≡ y) × (s.0.now ≡ t.0.now)
+one_late_publish κs a x y s t p q = (one_answer x y p.0 q.0, one_state s.0.now t.0.now p.1 q.1)
+
+-- the step by value: the state and the answer
 pub one_step : One 0 step_kinds.ps step_kinds.r step_reads.Post
 one_step κs a x y s t p q =
-    let answer = one_answer x.answer y.answer p.0 q.0 in
-    let state = one_state x.state y.state p.1 q.1 in
-    λ i. record { state = state i; answer = answer i }
+    let answer = one_answer x.1 y.1 p.0 q.0 in
+    let state = one_state x.0 y.0 p.1 q.1 in
+    λ i. record { 0 = state i; 1 = answer i }
 
 pub one_late_step : One 0 late_step_kinds.ps late_step_kinds.r late_step_reads.Post
 one_late_step κs a x y s t p q =
-    let answer = one_answer x.answer y.answer p.0 q.0 in
-    let state = one_state x.state y.state p.1 q.1 in
-    λ i. record { state = state i; answer = answer i }
+    let answer = one_answer x.1 y.1 p.0 q.0 in
+    let state = one_state x.0 y.0 p.1 q.1 in
+    λ i. record { 0 = state i; 1 = answer i }
 
 pub one_publish : One 0 publish_kinds.ps publish_kinds.r publish_reads.Post
 one_publish κs a x y s t p q =
-    let answer = one_answer x.answer y.answer p.0 q.0 in
-    let state = one_state x.state y.state p.1 q.1 in
-    λ i. record { state = state i; answer = answer i }
+    let answer = one_answer x.1 y.1 p.0 q.0 in
+    let state = one_state x.0 y.0 p.1 q.1 in
+    λ i. record { 0 = state i; 1 = answer i }
 
 -- ---- runs of requests
 
-pub one_replayed_code : One 0 replayed_code_kinds.ps replayed_code_kinds.r replayed_code_reads.Post
+-- the outcome of a run, from its code and place
+run_of : Written → Result ℕ NoRoom
+run_of w = cond (eqb w.code 0) (Ok w.place) (Err (record {}))
+
+run_back : (r : Result ℕ NoRoom) (l : List ℕ) → run_of (told r l) ≡ r
+unfolding run_of
+run_back (Ok n) l = refl
+run_back (Err e) l = refl
+
+told_bytes : (r : Result ℕ NoRoom) (l : List ℕ) → (told r l).bytes ≡ l
+told_bytes (Ok n) l = refl
+told_bytes (Err e) l = refl
+
+-- the code and the place of a run that had no room
+pub one_replayed_code : One 0 no_room_code_kinds.ps no_room_code_kinds.r no_room_code_reads.Post
 one_replayed_code κs a x y s t p q = p ∙ sym q
 
-pub one_replayed_place : One 0 replayed_place_kinds.ps replayed_place_kinds.r replayed_place_reads.Post
+pub one_replayed_place : One 0 no_room_place_kinds.ps no_room_place_kinds.r no_room_place_reads.Post
 one_replayed_place κs a x y s t p q = p ∙ sym q
-
--- the answer of a run, from its code and place
-run_of : Written → Replayed
-run_of w = cond (eqb w.code 0) (Done w.place) NoRoom
-
-run_back : (r : Replayed) (l : List ℕ) → run_of (told r l) ≡ r
-unfolding run_of
-run_back (Done n) l = refl
-run_back NoRoom l = refl
-
-told_bytes : (r : Replayed) (l : List ℕ) → (told r l).bytes ≡ l
-told_bytes (Done n) l = refl
-told_bytes NoRoom l = refl
 
 -- a run: what it returns, and the answers at exit, its third parameter
 pub one_replay : (κs : Lfts 2) (a : Dens κs replay_kinds.ps) (x y : (res_t replay_kinds.r κs).Denot) (s t : AtExit (ended_of 2 replay_kinds.ps replay_kinds.r) κs)

@@ -20,12 +20,13 @@ use Rattle.held.specs.Held.{Held, fresh_held, answer_to, after, answers}
 use Rattle.held_laws.specs.HeldExact.{held_exact}
 use Rattle.late.specs.Late.{Ask}
 use Rattle.late.specs.LateHeld.{late_answer, late_next}
-use Rattle.slots.specs.Lent.{lent, numbered, Steps, Lates}
-use Rattle.slots.specs.declared.Moved.{Moved}
+use Rattle.slots.specs.Lent.{lent, numbered, packed, Steps, Lates}
+use Rattle.slots.specs.declared.JobNumber.{JobNumber}
+use Rattle.slots.specs.declared.Refusal.{Refusal}
 use Rattle.slots.proofs.RequestLaws.{lent_same}
-use Rattle.arbiter.specs.Replay.{replayed, told, packed}
-use Rattle.arbiter.specs.declared.Replayed.{Replayed}
-use Rattle.arbiter.specs.declared.Replayed.TheVariants.{Done, NoRoom}
+use Rattle.std.specs.Prelude.{Result, Ok, Err}
+use Rattle.arbiter.specs.Replay.{replayed, told}
+use Rattle.arbiter.specs.declared.NoRoom.{NoRoom}
 
 -- ---- no job
 
@@ -76,20 +77,20 @@ stored l at v n ev h e =
 -- ---- where the room is short, and where it is not
 
 module _ (first : ℕ) (requests entry : List ℕ) where
-  pub replay_short : {n : ℕ} → n ≡ length requests / 8 → length entry / 8 < n → told NoRoom entry ≡ replayed first requests entry
+  pub replay_short : {e : NoRoom} {n : ℕ} → n ≡ length requests / 8 → length entry / 8 < n → told (Err e) entry ≡ replayed first requests entry
   unfolding replayed
   replay_short en short = rw (lt-ltb (length entry) (8 * (length requests / 8)) (omega arith))
 
   replay_room : length requests / 8 ≤ length entry / 8
-      → told (Done (8 * (length requests / 8))) (answer_bytes (replies first (records requests)) ++ drop (8 * (length requests / 8)) entry) ≡ replayed first requests entry
+      → told (Ok (8 * (length requests / 8))) (answer_bytes (replies first (records requests)) ++ drop (8 * (length requests / 8)) entry) ≡ replayed first requests entry
   unfolding replayed
   replay_room room = rw (le-ltb (length entry) (8 * (length requests / 8)) (omega arith))
 
 -- code and place with the bytes make the whole
-pub told_whole : (r : Replayed) {code place : ℕ} {bytes : List ℕ} → code ≡ (told r []).code → place ≡ (told r []).place
+pub told_whole : (r : Result ℕ NoRoom) {code place : ℕ} (bytes : List ℕ) → record { code = code; place = place; bytes = [] } ≡ told r []
     → record { code = code; place = place; bytes = bytes } ≡ told r bytes
-told_whole (Done n) {bytes = bytes} ec ep = λ i. record { code = ec i; place = ep i; bytes = bytes }
-told_whole NoRoom {bytes = bytes} ec ep = λ i. record { code = ec i; place = ep i; bytes = bytes }
+told_whole (Ok n) bytes e = λ i. record { code = (e i).code; place = (e i).place; bytes = bytes }
+told_whole (Err x) bytes e = λ i. record { code = (e i).code; place = (e i).place; bytes = bytes }
 
 -- ---- the loop
 
@@ -115,13 +116,13 @@ module _ {first : ℕ} {requests entry : List ℕ} where
     pub replay_fits : length requests / 8 ≤ length entry / 8 → i < length requests / 8 → i * 8 + 8 ≤ length bytes
     replay_fits room more = omega (arith, f.long)
 
-    pub replay_turn : {b numbers leads sets ports bytes₁ bytes₂ : List ℕ} {r : Moved} {code job : ℕ} → length requests / 8 ≤ length entry / 8 → i < length requests / 8
-        → b ≡ take 8 (drop (i * 8) requests) → Steps h (request_of b) r numbers leads sets ports
-        → code ≡ (numbered r.answer).code → job ≡ (numbered r.answer).job
+    pub replay_turn : (r : Result JobNumber Refusal) {b bytes₁ bytes₂ : List ℕ} {g : Held} {code job : ℕ} → length requests / 8 ≤ length entry / 8 → i < length requests / 8
+        → b ≡ take 8 (drop (i * 8) requests) → numbered r ≡ answer_to h (request_of b) → g ≡ after h (request_of b)
+        → code ≡ (numbered r).code → job ≡ (numbered r).job
         → bytes₁ ≡ take (i * 8) bytes ++ bytes_of 4 code ++ drop (i * 8 + 4) bytes
         → bytes₂ ≡ take (i * 8 + 4) bytes₁ ++ bytes_of 4 job ++ drop (i * 8 + 4 + 4) bytes₁
-        → Replaying first requests entry (i + 1) (lent r.next r.free numbers leads sets ports) bytes₂
-    replay_turn {b} {numbers} {leads} {sets} {ports} {bytes₁} {bytes₂} {r} {code} {job} room more eb s ec ej e₁ e₂ =
+        → Replaying first requests entry (i + 1) g bytes₂
+    replay_turn r {b} {bytes₁} {bytes₂} {g} {code} {job} room more eb answered moved_to ec ej e₁ e₂ =
         record {
           inside = omega arith;
           long = t₂.long ∙ t₁.long ∙ f.long;
@@ -149,7 +150,7 @@ module _ {first : ℕ} {requests entry : List ℕ} where
 
         -- what is left to be answered after this turn
         later : List ℕ
-        later = answer_bytes (answers (lent r.next r.free numbers leads sets ports) (records (drop ((i + 1) * 8) requests)))
+        later = answer_bytes (answers g (records (drop ((i + 1) * 8) requests)))
 
         left : records (drop (i * 8) requests) ≡ request_of b ∷ records (drop ((i + 1) * 8) requests)
         left =
@@ -160,7 +161,7 @@ module _ {first : ℕ} {requests entry : List ℕ} where
         these =
             ap (λ (l : List Request). answer_bytes (answers h l)) left
             ∙ ap₂ (λ (a : Reply) (st : Held). bytes_of 4 a.code ++ bytes_of 4 a.job ++ answer_bytes (answers st (records (drop ((i + 1) * 8) requests))))
-            (sym s.answered) (sym s.left)
+            (sym answered) (sym moved_to)
             ∙ ap₂ (λ (x y : ℕ). bytes_of 4 x ++ bytes_of 4 y ++ later) (sym ec) (sym ej)
 
         regroup : take (i * 8) bytes ++ (bytes_of 4 code ++ bytes_of 4 job ++ later) ≡ take (i * 8) bytes ++ bytes_of 4 code ++ bytes_of 4 job ++ later
@@ -169,8 +170,8 @@ module _ {first : ℕ} {requests entry : List ℕ} where
         heads : take ((i + 1) * 8) bytes₂ ≡ take (i * 8) bytes ++ bytes_of 4 code ++ bytes_of 4 job
         heads = ap (λ (k : ℕ). take k bytes₂) on ∙ t₂.head ∙ ap (λ (l : List ℕ). l ++ bytes_of 4 job) t₁.head
 
-    pub replay_end : {n : ℕ} → n ≡ length requests / 8 → n ≤ i → n ≤ length entry / 8 → told (Done (n * 8)) bytes ≡ replayed first requests entry
-    replay_end {n} en all room = ap₂ (λ (k : ℕ) (l : List ℕ). told (Done k) l) place (sym (take-append-drop (i * 8) bytes) ∙ both) ∙ replay_room first requests entry (omega arith)
+    pub replay_end : {n : ℕ} → n ≡ length requests / 8 → n ≤ i → n ≤ length entry / 8 → told (Ok (n * 8)) bytes ≡ replayed first requests entry
+    replay_end {n} en all room = ap₂ (λ (k : ℕ) (l : List ℕ). told (Ok k) l) place (sym (take-append-drop (i * 8) bytes) ∙ both) ∙ replay_room first requests entry (omega arith)
       where
         place : n * 8 ≡ 8 * (length requests / 8)
         place = omega arith
@@ -189,17 +190,10 @@ module _ {first : ℕ} {requests entry : List ℕ} where
 
 -- ---- one request
 
--- its answer in one number, from its code and its job
-pub in_one : {r : Reply} {code job : ℕ} → code ≡ r.code → job ≡ r.job → code * 4294967296 + job ≡ packed r
-unfolding packed
-in_one ec ej = ap₂ (λ (x y : ℕ). x * 4294967296 + y) ec ej
-
 -- what `reedtangle_step` says, from what `step_in_place` ensures
-pub packs : {h : Held} {q : Request} {r : Moved} {numbers leads sets ports : List ℕ} {n : ℕ} → Steps h q r numbers leads sets ports → n ≡ packed (numbered r.answer)
-    → (n ≡ packed (answer_to h q)) × (lent r.next r.free numbers leads sets ports ≡ after h q)
+pub packs : {h g : Held} {q : Request} {r : Result JobNumber Refusal} {n : ℕ} → Steps h q r g → n ≡ packed (numbered r) → (n ≡ packed (answer_to h q)) × (g ≡ after h q)
 packs s e = (e ∙ ap packed s.answered, s.left)
 
 -- and what the calls of the second profile say
-pub packs_late : {h : Held} {a : Ask} {r : Moved} {numbers leads sets ports : List ℕ} {n : ℕ} → Lates h a r numbers leads sets ports → n ≡ packed (numbered r.answer)
-    → (n ≡ packed (late_answer h a)) × (lent r.next r.free numbers leads sets ports ≡ late_next h a)
+pub packs_late : {h g : Held} {a : Ask} {r : Result JobNumber Refusal} {n : ℕ} → Lates h a r g → n ≡ packed (numbered r) → (n ≡ packed (late_answer h a)) × (g ≡ late_next h a)
 packs_late s e = (e ∙ ap packed s.answered, s.left)

@@ -1,11 +1,16 @@
--- What a run of requests answers, in bytes: the replies of the full history, from any first number, to the whole records of the requests. And a reply in
--- one number, for hosts that ask step by step.
+-- What a state by value holds, and what a run of requests answers, in bytes: the replies of the full history, from any first number, to the whole records of the requests.
 -- Assumes nothing.
-use Rattle.std.specs.Prelude.{cond, List, ◌++◌, ℕ, ◌+◌, ◌*◌, ◌/◌, ltb, length, drop}
+use Rattle.std.specs.Prelude.{cond, List, ◌++◌, ℕ, ◌*◌, ◌/◌, ltb, length, drop, Result}
+use Rattle.codes.specs.Codes.{code_in, place_in}
 use Rattle.history.specs.Formats.{records, answer_bytes}
-use Rattle.history.specs.Replies.{Reply, replies}
-use Rattle.arbiter.specs.declared.Replayed.{Replayed}
-use Rattle.arbiter.specs.declared.Replayed.TheVariants.{Done, NoRoom}
+use Rattle.history.specs.Replies.{replies}
+use Rattle.held.specs.Held.{Held}
+use Rattle.slots.specs.Lent.{lent}
+use Rattle.arbiter.specs.declared.NoRoom.{NoRoom}
+use Rattle.arbiter.specs.declared.State.{State}
+
+abbrev pub held_of : State → Held
+held_of s = lent s.next s.free s.numbers s.leads s.sets s.ports
 
 -- a code, a place, and what stands in the lent answers
 pub record Written : Type 0 where
@@ -20,11 +25,6 @@ replayed first requests lent =
     cond (ltb (length lent) room) (record { code = 24; place = 0; bytes = lent })
     (record { code = 0; place = room; bytes = answer_bytes (replies first (records requests)) ++ drop room lent })
 
--- the code and the place of each answer, with what is then lent
-abbrev pub told : Replayed → List ℕ → Written
-told (Done n) bytes = record { code = 0; place = n; bytes = bytes }
-told NoRoom bytes = record { code = 24; place = 0; bytes = bytes }
-
--- a reply in one number: its code times 2^32 plus its job, which is below that
-unfoldable pub packed : Reply → ℕ
-packed a = a.code * 4294967296 + a.job
+-- the code and the place of each outcome, with what is then lent
+abbrev pub told : Result ℕ NoRoom → List ℕ → Written
+told outcome bytes = record { code = code_in (λ _. 24) outcome; place = place_in (λ _. 0) outcome; bytes = bytes }

@@ -6,8 +6,8 @@ ghost use Rattle.history.specs.Formats.{request_of};
 ghost use Rattle.held.specs.Held.{fresh_held, answer_to, after};
 ghost use Rattle.late.specs.Late.{asks, publishes};
 ghost use Rattle.late.specs.LateHeld.{late_answer, late_next};
-ghost use Rattle.slots.specs.Lent.{lent};
-ghost use Rattle.arbiter.specs.Replay.{replayed, packed};
+ghost use Rattle.slots.specs.Lent.{lent, packed};
+ghost use Rattle.arbiter.specs.Replay.{replayed};
 
 // `replay`: the code. `written` gets the bytes written.
 #[unsafe(no_mangle)]

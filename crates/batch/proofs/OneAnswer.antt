@@ -4,19 +4,23 @@
 use mathlib.Core.Path.{◌≡◌, refl, sym, ap, ◌∙◌}
 use mathlib.Core.Bool.{cond}
 use mathlib.Core.List.{[]}
+use Prim.Native.Nat.{ℕ}
 use lib.Dec.{eqb}
 use contract.Lifetimes.{Lfts}
 use borrow.Fn.Kinds.{Dens, res_t, ended_of}
 use denote.Triple.Clauses.{AtExit}
+use Rattle.std.specs.Prelude.{Result, Ok, Err}
 use Rattle.cells.proofs.OneAnswer.{One}
+use Rattle.slots.specs.declared.Refusal.TheVariants.{Malformed, NoCell, NotOpen, HasWritten, Full, Spent, Circle, NoPort, PortFull}
+use Rattle.slots.proofs.OneAnswer.{refusal_of}
 use Rattle.batch.specs.Batch.{Verdict}
 use Rattle.batch.specs.Leaves.{numbered}
-use Rattle.batch.specs.declared.Batched.{Batched}
-use Rattle.batch.specs.declared.Batched.TheVariants.{Granted, Malformed, NoCell, NotOpen, Circle, Length}
-use Rattle.batch.proofs.Batched.code.Kinds as code_kinds
-use Rattle.batch.proofs.Batched.code.Reads as code_Reads
-use Rattle.batch.proofs.Batched.place.Kinds as place_kinds
-use Rattle.batch.proofs.Batched.place.Reads as place_reads
+use Rattle.batch.specs.declared.BatchRefusal.{BatchRefusal}
+use Rattle.batch.specs.declared.BatchRefusal.TheVariants.{Length, Item}
+use Rattle.batch.proofs.BatchRefusalTold.code.Kinds as code_kinds
+use Rattle.batch.proofs.BatchRefusalTold.code.Reads as code_Reads
+use Rattle.batch.proofs.BatchRefusalTold.place.Kinds as place_kinds
+use Rattle.batch.proofs.BatchRefusalTold.place.Reads as place_reads
 use Rattle.batch.proofs.batch_in_place.Kinds as in_place_kinds
 use Rattle.batch.proofs.batch_in_place.Reads as in_place_reads
 use Rattle.batch.proofs.reedtangle_batch.Kinds as export_kinds
@@ -28,24 +32,26 @@ one_code κs a x y s t p q = p ∙ sym q
 pub one_place : One 0 place_kinds.ps place_kinds.r place_reads.Post
 one_place κs a x y s t p q = p ∙ sym q
 
--- the answer of a verdict
-answer_of : Verdict → Batched
-answer_of v =
-    let n = v.code in
-    cond (eqb n 0) (Granted v.place)
-    (cond (eqb n 1) (Malformed v.place) (cond (eqb n 2) (NoCell v.place) (cond (eqb n 3) (NotOpen v.place) (cond (eqb n 7) (Circle v.place) Length))))
+-- the answer of a verdict: of 25 the length is wrong, and any other code but 0 is that of an item
+answer_of : Verdict → Result ℕ BatchRefusal
+answer_of v = cond (eqb v.code 0) (Ok v.place) (cond (eqb v.code 25) (Err Length) (Err (Item (refusal_of v.code) v.place)))
 
-answer_back : (r : Batched) → answer_of (numbered r) ≡ r
-unfolding answer_of
-answer_back (Granted n) = refl
-answer_back (Malformed p) = refl
-answer_back (NoCell p) = refl
-answer_back (NotOpen p) = refl
-answer_back (Circle p) = refl
-answer_back Length = refl
+answer_back : (r : Result ℕ BatchRefusal) → answer_of (numbered r) ≡ r
+unfolding answer_of refusal_of
+answer_back (Ok n) = refl
+answer_back (Err Length) = refl
+answer_back (Err (Item Malformed p)) = refl
+answer_back (Err (Item NoCell p)) = refl
+answer_back (Err (Item NotOpen p)) = refl
+answer_back (Err (Item HasWritten p)) = refl
+answer_back (Err (Item Full p)) = refl
+answer_back (Err (Item Spent p)) = refl
+answer_back (Err (Item Circle p)) = refl
+answer_back (Err (Item NoPort p)) = refl
+answer_back (Err (Item PortFull p)) = refl
 
 -- no two answers have the same code and place
-one_answer : (r s : Batched) → numbered r ≡ numbered s → r ≡ s
+one_answer : (r s : Result ℕ BatchRefusal) → numbered r ≡ numbered s → r ≡ s
 one_answer r s e = sym (answer_back r) ∙ ap answer_of e ∙ answer_back s
 
 -- the batch in place: what it returns, and the three arrays at exit, which are its third, fourth and fifth parameter

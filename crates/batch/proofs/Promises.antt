@@ -3,15 +3,17 @@
 -- To be believed for them: Batch (the verdict, and the state, the history and its book that a batch leaves), Host (a host's calls, one request or a batch), and what the promises of
 -- held and history need. In order: what a batch gets; what it leaves; the full history; one number for code and place.
 -- Assumes nothing.
-use Rattle.std.specs.Prelude.{◌≡◌, ◌↔◌, List, [], ◌++◌, ℕ, ◌≤◌, ◌<◌, length}
+use Rattle.std.specs.Prelude.{◌≡◌, ◌↔◌, ◌⊎◌, List, [], ◌++◌, ℕ, ◌≤◌, ◌<◌, length}
 use Rattle.graph.specs.Lists.{◌∈◌}
 use Rattle.history.specs.Formats.{records}
 use Rattle.history.specs.Replies.{numbers, Request, blank_book, history_of, book_of}
 use Rattle.held.specs.Held.{Held, fresh_held, after_all}
 use Rattle.batch.specs.Batch.{verdict, batch, batch_leaves, full_batch, full_leaves, book_leaves, packed}
 use Rattle.batch.specs.Cases.{bytes, Tried, expected, outcome, table, batch_cases}
+use Rattle.batch.specs.Leaves.{Refused}
 use Rattle.batch.specs.Host.{Call, all_said, all_fully_said}
 use Rattle.batch.proofs.Host.{calls_alike}
+use Rattle.batch.proofs.RunLaws.{codes_known}
 use Rattle.batch.specs.Laws.{IllSized, AllGranted, FirstRefused, Means}
 use Rattle.batch.proofs.Laws.{items_read, batch_right, grants_exactly, grant_counts, grant_leaves, ill_judged, refused_first, refusal_leaves, empty_judged, exactly, hands_on, judged_small, judged_apart}
 
@@ -37,6 +39,10 @@ length_first = ill_judged
 pub first_refusal : (h : Held) (bytes : List ℕ) → (IllSized bytes → ⊥) → ((batch h bytes).code ≡ 0 → ⊥)
     → FirstRefused h (records bytes) (batch h bytes).code (batch h bytes).place
 first_refusal = refused_first
+
+-- no code but 25, 0 and the four of an item: 1, 2, 3 and 7
+pub known_codes : (h : Held) (bytes : List ℕ) → ((batch h bytes).code ≡ 25) ⊎ (((batch h bytes).code ≡ 0) ⊎ Refused (batch h bytes).code)
+known_codes = codes_known
 
 -- no items: granted, with count 0
 pub empty_granted : (h : Held) → batch h [] ≡ verdict 0 0

@@ -3,645 +3,464 @@
 // A batch is given to the proved code on one copy of a state, and its requests one by one to the arbiter on another; code, place and the whole state after it are
 // compared. The states come from single requests between the batches, and some are of any content. A line for each shape of batches has how many there were, how many got
 // each code, how many were refused after an item was granted, how many adds the granted ones had, and how many differed. What is proved here is that the program is safe and ends.
-//
-// A request is one number, its eight bytes with the low byte first.
 #![tactic(auto)]
 
-use arbiter::{JobNumber, State};
+ghost use Rattle.std.specs.Prelude.{◌<◌, ◌≤◌};
+
+use arbiter::{Answer, JobNumber, Refusal, State};
+use batch::{BatchRefusal, Batched};
+use codes::Told;
 
 // ---- numbers from a seed
 
-fn shifted(x: u64) -> u64 {
-    let y = x ^ (x << 13);
-    let z = y ^ (y >> 7);
-    z ^ (z << 17)
-}
+// One number of a generator, and the generator from there on.
+#[derive(Clone, Copy)]
+struct Random(u64);
 
-// One of n numbers, from the low one on: ten bits of the generator's number, at one of six places.
-fn pick(r: u64, place: u64, low: u64, n: u64) -> u64 {
-    if n == 0 {
-        return low;
+impl Random {
+    // The next number, as `blocked` has it, which shares no code: a crate for the three lines would be longer than they are.
+    fn shifted(self) -> Random {
+        let x = self.0 ^ (self.0 << 13);
+        let y = x ^ (x >> 7);
+        Random(y ^ (y << 17))
     }
-    std::num::wrapping_add_u64(low, (r >> (place % 6 * 10)) % 1024 % n)
+
+    // The number from which another run of numbers starts.
+    fn apart(self) -> Random {
+        Random(self.0.wrapping_add(0x9e37_79b9_7f4a_7c15)).shifted()
+    }
+
+    // A number below n: ten bits of this one, at one of six places.
+    fn below(self, n: u64, place: u64) -> u64
+        requires some { 0 < n }
+        requires place { place < 6 }
+        ensures { result < n }
+    {
+        (self.0 >> (place * 10)) % 1024 % n
+    }
+
+    // One in so many times; never where that is 0.
+    fn one_in(self, n: u64, place: u64) -> bool
+        requires { place < 6 }
+    {
+        n != 0 && self.below(n, place) == 0
+    }
+
+    // A number of which about one bit in 64 is set.
+    fn sparse(self) -> u64 {
+        self.take(5).fold(self.0, |bits, r| bits & r.0)
+    }
 }
 
-// One in so many times; never where that is 0.
-fn one_in(r: u64, place: u64, n: u64) -> bool {
-    n != 0 && pick(r, place, 0, n) == 0
+impl Iterator for Random {
+    type Item = Random;
+
+    fn next(&mut self) -> Option<Random> {
+        *self = self.shifted();
+        Some(*self)
+    }
 }
 
 // ---- requests
 
-fn request(kind: u64, byte1: u64, cell: u64, job: u64) -> u64 {
-    kind % 256 + (byte1 % 256) * 256 + (cell % 65536) * 65536 + (job % 4294967296) * 4294967296
+// Its own: as many as are asked here, with the numbers of the wire, which the Kind of `slots` is only read from.
+#[derive(Clone, Copy)]
+enum Kind {
+    Open = 1,
+    Read = 2,
+    Write = 3,
+    End = 4,
+    Abandon = 5,
+    Add = 7,
 }
 
-fn byte_of(request: u64, place: u64) -> u8 {
-    ((request >> (place % 8 * 8)) % 256) as u8
+// The kinds that a batch takes.
+const TAKEN: [Kind; 3] = [Kind::Read, Kind::Write, Kind::Add];
+
+// The eight bytes of a request.
+// Made by hand: bytes that are no request are asked, too.
+fn request(kind: u8, byte1: u8, cell: u16, job: u32) -> [u8; 8] {
+    let [c0, c1] = cell.to_le_bytes();
+    let [j0, j1, j2, j3] = job.to_le_bytes();
+    [kind, byte1, c0, c1, j0, j1, j2, j3]
 }
 
-fn bytes_of(request: u64) -> [u8; 8] {
-    [
-        byte_of(request, 0),
-        byte_of(request, 1),
-        byte_of(request, 2),
-        byte_of(request, 3),
-        byte_of(request, 4),
-        byte_of(request, 5),
-        byte_of(request, 6),
-        byte_of(request, 7),
-    ]
-}
-
-// The shape of batches is one number. Its bytes: the cells in use, the jobs in use, one in how many steps is a write or an add, one in how many items a bad one, one in how many
-// batches is of one job, and whether the states are of any content.
-const CELLS: u64 = 0;
-
-const JOBS: u64 = 1;
-
-const WRITES: u64 = 2;
-
-const BAD: u64 = 3;
-
-const ALONE: u64 = 4;
-
-const ANY: u64 = 5;
-
-fn of(shape: u64, which: u64) -> u64 {
-    byte_of(shape, which) as u64
-}
-
-fn wide(x: u32) -> u64 {
-    x as u64
-}
-
-fn number_in(numbers: &[u32; 32], slot: u64) -> u64 {
-    wide(numbers[(slot % 32) as usize])
-}
-
-// The job in one of the slots in use; 0 where it is free.
-fn job_for(shape: u64, r: u64, numbers: &[u32; 32]) -> u64 {
-    number_in(numbers, pick(r, 0, 0, of(shape, JOBS)))
-}
-
-// The kinds that a batch takes: a read, a write, an add.
-fn kind_of(k: u64) -> u64 {
-    match k {
-        0 => 2,
-        1 => 3,
-        _ => 7,
-    }
-}
-
-fn kind_for(shape: u64, r: u64) -> u64 {
-    if one_in(r, 2, of(shape, WRITES)) {
-        return kind_of(pick(r, 5, 1, 2));
-    }
-    2
-}
-
-fn step(shape: u64, r: u64, job: u64) -> u64 {
-    let cell = pick(r, 1, 0, of(shape, CELLS));
-    request(kind_for(shape, r), 0, cell, job)
+// An open takes the lowest free slot: those of slots 0 to 15 are of port 0, the others of port 1, so that a port has at most 16.
+fn open_for(free: u32) -> [u8; 8] {
+    request(Kind::Open as u8, 0, 0, u32::from(free % 65536 == 0))
 }
 
 // An item that is mostly refused: any kind, byte 1 not zero, a cell above 255, a job that was perhaps never issued.
-fn bad_item(r: u64, job: u64) -> u64 {
-    let way = pick(r, 3, 0, 4);
-    let kind = kind_of(pick(r, 4, 0, 3));
-    match way {
-        0 => request(pick(r, 4, 0, 10), 0, 7, job),
-        1 => request(kind, pick(r, 5, 1, 255), 7, job),
-        2 => request(kind, 0, pick(r, 5, 256, 900), job),
-        _ => request(kind, 0, 7, pick(r, 5, job, 40)),
+fn bad_item(r: Random, job: u32) -> [u8; 8] {
+    let kind = TAKEN[r.below(3, 4) as usize] as u8;
+    match r.below(4, 3) {
+        0 => request(r.below(10, 4) as u8, 0, 7, job),
+        1 => request(kind, 1 + r.below(255, 5) as u8, 7, job),
+        2 => request(kind, 0, 256 + r.below(900, 5) as u16, job),
+        _ => request(kind, 0, 7, job.wrapping_add(r.below(40, 5) as u32)),
     }
 }
 
-// ---- the bytes of a batch, with room for 66 items
+// ---- batches
 
-type Bytes = [u8; 528];
+// A batch is the start of these.
+type Items = [[u8; 8]; 66];
 
-fn put_byte(bytes: &mut Bytes, i: usize, x: u8) {
-    if i < 528 {
-        bytes[i] = x;
+// A shape of batches, and of the states that they are tried on.
+#[derive(Clone, Copy)]
+struct Shape {
+    name: &'static str,
+    // The cells and the jobs in use.
+    cells: u64,
+    jobs: u64,
+    // One in how many steps is a write or an add, one in how many items a bad one, and one in how many batches is of one job. 0 is none, in one number
+    // each: an Option would be matched in `one_in`, which asks for 0 in any case.
+    writes: u64,
+    bad: u64,
+    alone: u64,
+    // Are the states of any content?
+    is_any: bool,
+    ghost some_cells: { 0 < cells },
+    ghost few_cells: { cells < 256 },
+    ghost some_jobs: { 0 < jobs },
+    ghost few_jobs: { jobs ≤ 32 },
+}
+
+impl Shape {
+    // The job in one of the slots in use; 0 where it is free.
+    fn job(&self, r: Random, numbers: &[u32; 32]) -> u32 {
+        numbers[r.below(self.jobs, 0) as usize]
     }
-}
 
-fn put_item(bytes: &mut Bytes, i: usize, item: u64) {
-    let from = i % 66 * 8;
-    put_byte(bytes, from, byte_of(item, 0));
-    put_byte(bytes, from + 1, byte_of(item, 1));
-    put_byte(bytes, from + 2, byte_of(item, 2));
-    put_byte(bytes, from + 3, byte_of(item, 3));
-    put_byte(bytes, from + 4, byte_of(item, 4));
-    put_byte(bytes, from + 5, byte_of(item, 5));
-    put_byte(bytes, from + 6, byte_of(item, 6));
-    put_byte(bytes, from + 7, byte_of(item, 7));
-}
-
-fn item(shape: u64, r: u64, job: u64) -> u64 {
-    if one_in(r, 3, of(shape, BAD)) {
-        return bad_item(shifted(r), job);
+    // A read, a write or an add.
+    fn step(&self, r: Random, job: u32) -> [u8; 8] {
+        let kind = if r.one_in(self.writes, 2) {
+            TAKEN[1 + r.below(2, 5) as usize]
+        } else {
+            Kind::Read
+        };
+        request(kind as u8, 0, r.below(self.cells, 1) as u16, job)
     }
-    step(shape, r, job)
-}
 
-// 66 items, of one job or of any.
-fn draw(shape: u64, seed: u64, numbers: &[u32; 32], bytes: &mut Bytes) {
-    let alone = one_in(seed, 5, of(shape, ALONE));
-    let mut job = job_for(shape, seed, numbers);
-    let mut r = seed;
-    let mut i: usize = 0;
-    while i < 66 {
-        r = shifted(r);
-        if !alone {
-            job = job_for(shape, r, numbers);
+    fn item(&self, r: Random, job: u32) -> [u8; 8] {
+        if r.one_in(self.bad, 3) {
+            bad_item(r.shifted(), job)
+        } else {
+            self.step(r, job)
         }
-        put_item(bytes, i, item(shape, r, job));
-        i += 1;
+    }
+
+    // Items of one job or of any.
+    fn draw(&self, seed: Random, numbers: &[u32; 32], items: &mut Items) {
+        let is_alone = seed.one_in(self.alone, 5);
+        let first = self.job(seed, numbers);
+        for (item, r) in items.iter_mut().zip(seed) {
+            let job = if is_alone {
+                first
+            } else {
+                self.job(r, numbers)
+            };
+            *item = self.item(r, job);
+        }
+    }
+
+    // A single request between batches: an open, an end, an abandon, or a step.
+    fn single(&self, r: Random, free: u32, numbers: &[u32; 32]) -> [u8; 8] {
+        let job = self.job(r, numbers);
+        match r.below(12, 4) {
+            0 => request(Kind::End as u8, 0, 0, job),
+            1 => request(Kind::Abandon as u8, 0, 0, job),
+            2..=4 => open_for(free),
+            _ => self.step(r, job),
+        }
+    }
+
+    fn go_on(&self, r: Random, state: &mut State) {
+        let asked = self.single(r, state.free, &state.numbers);
+        let _ = state.ask(asked);
+    }
+
+    // Opens for the slots in use, and then requests of any kind.
+    fn lead_in(&self, seed: Random) -> State {
+        let mut state = State::fresh(JobNumber((seed.0 % 3) as u32));
+        for (i, r) in (0..80u64).zip(seed) {
+            if i < self.jobs {
+                let asked = open_for(state.free);
+                let _ = state.ask(asked);
+            } else {
+                self.go_on(r, &mut state);
+            }
+        }
+        state
+    }
+
+    // Twelve batches from one start, and a request after each.
+    fn window(&self, seed: Random, counts: &mut Counts) {
+        let mut items = [[0; 8]; 66];
+        let mut state = if self.is_any {
+            any_state(seed)
+        } else {
+            self.lead_in(seed)
+        };
+        let mut r = seed;
+        for _ in 0..12 {
+            r = r.apart();
+            self.draw(r, &state.numbers, &mut items);
+            let length = length_of(r.shifted());
+            counts.batch(&mut state, &items.as_flattened()[..length]);
+            self.go_on(r.shifted().shifted(), &mut state);
+        }
     }
 }
 
-// How many bytes of them are given: mostly whole items, up to 64 of them.
-fn length_of(r: u64) -> usize {
-    let items = pick(r, 1, 0, 65) % 65;
-    let way = pick(r, 2, 0, 24);
-    match way {
-        0 => (items * 8 + pick(r, 3, 1, 7) % 8) as usize,
-        1 => pick(r, 3, 513, 16) as usize,
+// How many bytes of the items are given: mostly whole items, up to 64 of them.
+fn length_of(r: Random) -> usize
+    ensures { result ≤ 528 }
+{
+    let whole = r.below(65, 1) * 8;
+    let length = match r.below(24, 2) {
+        0 => whole + 1 + r.below(7, 3),
+        1 => 513 + r.below(16, 3),
         2 => 520,
         3 => 512,
-        4 => pick(r, 3, 0, 17) as usize,
+        4 => r.below(17, 3),
         5 => 320,
-        _ => (items * 8) as usize,
+        _ => whole,
+    };
+    length as usize
+}
+
+// ---- states of any content
+
+// Fills with what is made of each number that comes.
+fn fill<T: Copy, F: Fn(Random) -> T>(all: &mut [T], seed: Random, make: F)
+    requires { F.IsAlwaysCallable make }
+{
+    for (one, r) in all.iter_mut().zip(seed) {
+        *one = make(r);
     }
 }
 
-// ---- one by one
-
-// A code and a place, and the state after it.
-#[derive(Clone, Copy)]
-struct Told {
-    code: u32,
-    place: usize,
-    state: State,
+// A mask of slots.
+fn mask(r: Random) -> u32 {
+    (r.sparse() & 0xffff_ffff) as u32
 }
 
-fn tell(code: u32, place: usize, state: State) -> Told {
-    Told {
-        code: code,
-        place: place,
-        state: state,
-    }
+// A state that no requests give: a few numbers, some of them twice, leads, sets and ports of any content.
+fn any_state(seed: Random) -> State {
+    let mut state = State {
+        next: seed.0,
+        free: (seed.0 & seed.shifted().0 & 0xffff_ffff) as u32,
+        numbers: [0; 32],
+        leads: [0; 32],
+        sets: [0; 512],
+        ports: [0; 3],
+    };
+    fill(&mut state.numbers, seed, |r| (r.0 % 24) as u32);
+    fill(&mut state.leads, seed.shifted(), mask);
+    fill(&mut state.sets, seed.shifted().shifted(), Random::sparse);
+    fill(&mut state.ports, seed, mask);
+    state
 }
 
-fn byte_at(bytes: &[u8], i: usize) -> u8 {
-    if i < bytes.len() {
-        return bytes[i];
-    }
-    0
-}
+// ---- what is asked
 
-fn item_at(bytes: &[u8], i: usize) -> [u8; 8] {
-    let from = i % 66 * 8;
-    [
-        byte_at(bytes, from),
-        byte_at(bytes, from + 1),
-        byte_at(bytes, from + 2),
-        byte_at(bytes, from + 3),
-        byte_at(bytes, from + 4),
-        byte_at(bytes, from + 5),
-        byte_at(bytes, from + 6),
-        byte_at(bytes, from + 7),
-    ]
-}
-
-// One request to the arbiter: the code, and the state after it.
-fn ask(state: State, asked: [u8; 8]) -> Told {
-    let mut numbers = state.numbers;
-    let mut leads = state.leads;
-    let mut sets = state.sets;
-    let mut ports = state.ports;
-    let moved = arbiter::step_in_place(
+// A batch: how many items were granted.
+fn batched(state: &mut State, bytes: &[u8]) -> Batched {
+    batch::batch_in_place(
         state.next,
         state.free,
-        &mut numbers,
-        &mut leads,
-        &mut sets,
-        &mut ports,
-        asked,
-    );
-    let answer = moved.answer;
-    tell(
-        answer.code(),
-        0,
-        State {
-            next: moved.next,
-            free: moved.free,
-            numbers: numbers,
-            leads: leads,
-            sets: sets,
-            ports: ports,
-        },
+        &mut state.numbers,
+        &mut state.leads,
+        &mut state.sets,
+        bytes,
     )
 }
 
 // An item by itself.
-fn ask_item(state: State, asked: [u8; 8]) -> Told {
-    let kind = asked[0];
-    if kind != 2 && kind != 3 && kind != 7 {
-        return tell(1, 0, state);
+fn ask_item(state: &mut State, asked: [u8; 8]) -> Answer {
+    if TAKEN.iter().any(|kind| *kind as u8 == asked[0]) {
+        state.ask(asked)
+    } else {
+        Err(Refusal::Malformed)
     }
-    ask(state, asked)
 }
 
-// What the requests are to get as one batch. Every one is asked, on the state that those before it left; the first code that is not 0 counts, and then the state from
-// before them all.
-fn one_by_one(before: State, bytes: &[u8]) -> Told {
-    if bytes.len() % 8 != 0 || 64 < bytes.len() / 8 {
-        return tell(25, 0, before);
+// What the requests are to get as one batch. Every one is asked, on the state that those before it left; the first refusal counts, and then the state from before them all.
+fn one_by_one(state: &mut State, bytes: &[u8]) -> Batched {
+    let (items, tail) = bytes.as_chunks::<8>();
+    if !tail.is_empty() || 64 < items.len() {
+        return Err(BatchRefusal::Length);
     }
-    let count = bytes.len() / 8;
-    let mut now = tell(0, count, before);
-    let mut code: u32 = 0;
-    let mut place: usize = count;
-    let mut i: usize = 0;
-    while i < count {
-        let state = now.state;
-        now = ask_item(state, item_at(bytes, i));
-        if code == 0 && now.code != 0 {
-            code = now.code;
-            place = i;
+    let before = *state;
+    let mut told = Ok(items.len());
+    for (place, item) in items.iter().enumerate() {
+        if let (Err(refusal), Ok(_)) = (ask_item(state, *item), told) {
+            told = Err(BatchRefusal::Item(refusal, place));
         }
-        i += 1;
     }
-    if code != 0 {
-        return tell(code, place, before);
+    if told.is_err() {
+        *state = before;
     }
-    let after = now.state;
-    tell(0, count, after)
+    told
 }
 
-// ---- the batch
+// ---- counts
 
-fn batched(before: State, bytes: &[u8]) -> Told {
-    let mut numbers = before.numbers;
-    let mut leads = before.leads;
-    let mut sets = before.sets;
-    let ports = before.ports;
-    let r = batch::batch_in_place(
-        before.next,
-        before.free,
-        &mut numbers,
-        &mut leads,
-        &mut sets,
-        bytes,
-    );
-    tell(
-        r.code(),
-        r.place(),
-        State {
-            next: before.next,
-            free: before.free,
-            numbers: numbers,
-            leads: leads,
-            sets: sets,
-            ports: ports,
-        },
-    )
+fn raise(count: &mut u64, by: u64) {
+    *count = count.wrapping_add(by);
 }
 
-// ---- compared
+#[derive(Clone, Copy)]
+struct Counts {
+    batches: u64,
+    items: u64,
+    // How often each code was given, at its place.
+    codes: [u64; 26],
+    later: u64,
+    adds: u64,
+    differ: u64,
+}
 
-fn same_rows(a: &[u32; 32], b: &[u32; 32]) -> bool {
-    let mut i: usize = 0;
-    while i < 32 {
-        if a[i] != b[i] {
-            return false;
+impl Counts {
+    const NONE: Counts = Counts {
+        batches: 0,
+        items: 0,
+        codes: [0; 26],
+        later: 0,
+        adds: 0,
+        differ: 0,
+    };
+
+    // A batch to both. The state goes on as the code left it.
+    fn batch(&mut self, state: &mut State, bytes: &[u8]) {
+        let mut ours = *state;
+        let told = batched(state, bytes);
+        let wanted = one_by_one(&mut ours, bytes);
+        let (items, _) = bytes.as_chunks::<8>();
+        raise(&mut self.batches, 1);
+        raise(&mut self.items, items.len() as u64);
+        match wanted {
+            Ok(_) => {
+                let adds = items
+                    .iter()
+                    .filter(|item| item[0] == Kind::Add as u8)
+                    .count();
+                raise(&mut self.codes[0], 1);
+                raise(&mut self.adds, adds as u64);
+            }
+            Err(refusal) => {
+                if let Some(given) = self.codes.get_mut(refusal.code() as usize) {
+                    raise(given, 1);
+                }
+                if refusal.place() != 0 {
+                    raise(&mut self.later, 1);
+                }
+            }
         }
-        i += 1;
-    }
-    true
-}
-
-fn same_words(a: &[u64; 512], b: &[u64; 512]) -> bool {
-    let mut i: usize = 0;
-    while i < 512 {
-        if a[i] != b[i] {
-            return false;
+        if told != wanted || *state != ours {
+            raise(&mut self.differ, 1);
         }
-        i += 1;
     }
-    true
-}
 
-fn same_ports(a: [u32; 3], b: [u32; 3]) -> bool {
-    (a[0] == b[0]) & (a[1] == b[1]) & (a[2] == b[2])
-}
-
-fn same_state(a: State, b: State) -> bool {
-    let numbers_a = a.numbers;
-    let numbers_b = b.numbers;
-    let leads_a = a.leads;
-    let leads_b = b.leads;
-    let sets_a = a.sets;
-    let sets_b = b.sets;
-    let ports_a = a.ports;
-    let ports_b = b.ports;
-    let next = a.next == b.next;
-    let free = a.free == b.free;
-    let numbers = same_rows(&numbers_a, &numbers_b);
-    let leads = same_rows(&leads_a, &leads_b);
-    let sets = same_words(&sets_a, &sets_b);
-    let ports = same_ports(ports_a, ports_b);
-    next & free & numbers & leads & sets & ports
-}
-
-fn same(a: Told, b: Told) -> bool {
-    let x = a.state;
-    let y = b.state;
-    let code = a.code == b.code;
-    let place = a.place == b.place;
-    code & place & same_state(x, y)
-}
-
-// ---- counts. Those of the codes stand at the place of their code.
-
-type Counts = [u64; 32];
-
-const BATCHES: usize = 26;
-
-const ITEMS: usize = 27;
-
-const LATER: usize = 28;
-
-const DIFFER: usize = 29;
-
-const ADDS: usize = 30;
-
-fn count(counts: &Counts, i: usize) -> u64 {
-    counts[i % 32]
-}
-
-fn bump(counts: &mut Counts, i: usize, by: u64) {
-    let sum = std::num::wrapping_add_u64(counts[i % 32], by);
-    counts[i % 32] = sum;
-}
-
-fn bump_if(counts: &mut Counts, i: usize, so: bool) {
-    if so {
-        bump(counts, i, 1);
-    }
-}
-
-fn is_add(item: [u8; 8]) -> u64 {
-    (item[0] == 7) as u64
-}
-
-// How many items are adds?
-fn adds_in(bytes: &[u8]) -> u64 {
-    let mut adds: u64 = 0;
-    let mut i: usize = 0;
-    while i < 64 {
-        adds = std::num::wrapping_add_u64(adds, is_add(item_at(bytes, i)));
-        i += 1;
-    }
-    adds
-}
-
-// The same of a batch that is granted.
-fn adds_granted(code: u32, bytes: &[u8]) -> u64 {
-    if code != 0 {
-        return 0;
-    }
-    adds_in(bytes)
-}
-
-// A batch to both, and the state that the code left.
-fn try_batch(before: State, bytes: &[u8], counts: &mut Counts) -> State {
-    let theirs = batched(before, bytes);
-    let ours = one_by_one(before, bytes);
-    bump(counts, BATCHES, 1);
-    bump(counts, ITEMS, (bytes.len() / 8) as u64);
-    bump(counts, ours.code as usize, 1);
-    bump_if(counts, LATER, ours.code != 0 && ours.place != 0);
-    bump(counts, ADDS, adds_granted(ours.code, bytes));
-    bump_if(counts, DIFFER, !same(ours, theirs));
-    theirs.state
-}
-
-// ---- states
-
-// An open takes the lowest free slot: those of slots 0 to 15 are of port 0, the others of port 1, so that a port has at most 16.
-fn open_for(free: u32) -> u64 {
-    request(1, 0, 0, (free % 65536 == 0) as u64)
-}
-
-// A single request between batches: an open, an end, an abandon, or a step.
-fn single(shape: u64, r: u64, free: u32, numbers: &[u32; 32]) -> u64 {
-    let job = job_for(shape, r, numbers);
-    let way = pick(r, 4, 0, 12);
-    match way {
-        0 => request(4, 0, 0, job),
-        1 => request(5, 0, 0, job),
-        2 | 3 | 4 => open_for(free),
-        _ => step(shape, r, job),
-    }
-}
-
-fn go_on(before: State, shape: u64, r: u64) -> State {
-    let numbers = before.numbers;
-    let asked = bytes_of(single(shape, r, before.free, &numbers));
-    let after = ask(before, asked);
-    after.state
-}
-
-// Opens for the slots in use, and then requests of any kind.
-fn lead_in(shape: u64, seed: u64) -> State {
-    let mut state = State::fresh(JobNumber((seed % 3) as u32));
-    let mut r = seed;
-    let mut i: u64 = 0;
-    while i < 80 {
-        r = shifted(r);
-        if i < of(shape, JOBS) {
-            let opened = ask(state, bytes_of(open_for(state.free)));
-            state = opened.state;
-        } else {
-            state = go_on(state, shape, r);
+    fn add(&mut self, other: &Counts) {
+        raise(&mut self.batches, other.batches);
+        raise(&mut self.items, other.items);
+        for (sum, given) in self.codes.iter_mut().zip(other.codes) {
+            raise(sum, given);
         }
-        i += 1;
+        raise(&mut self.later, other.later);
+        raise(&mut self.adds, other.adds);
+        raise(&mut self.differ, other.differ);
     }
-    state
-}
-
-// Any number of which about one bit in 64 is set.
-fn sparse(r: u64) -> u64 {
-    let a = shifted(r);
-    let b = shifted(a);
-    let c = shifted(b);
-    let d = shifted(c);
-    r & a & b & c & d & shifted(d)
-}
-
-// A job number, of which there are few, or a mask of leads.
-fn any_row(r: u64, number: bool) -> u32 {
-    if number {
-        return (r % 24) as u32;
-    }
-    (sparse(r) % 4294967296) as u32
-}
-
-fn any_rows(seed: u64, number: bool) -> [u32; 32] {
-    let mut rows = [0u32; 32];
-    let mut r = seed;
-    let mut i: usize = 0;
-    while i < 32 {
-        r = shifted(r);
-        rows[i] = any_row(r, number);
-        i += 1;
-    }
-    rows
-}
-
-fn any_words(seed: u64) -> [u64; 512] {
-    let mut words = [0u64; 512];
-    let mut r = seed;
-    let mut i: usize = 0;
-    while i < 512 {
-        r = shifted(r);
-        words[i] = sparse(r);
-        i += 1;
-    }
-    words
-}
-
-// A state that no requests give: a few numbers, some of them twice, leads, sets and ports of any content.
-fn any_state(seed: u64) -> State {
-    let numbers = any_rows(seed, true);
-    let leads = any_rows(shifted(seed), false);
-    let sets = any_words(shifted(shifted(seed)));
-    let ports = any_rows(seed, false);
-    State {
-        next: seed,
-        free: ((seed & shifted(seed)) % 4294967296) as u32,
-        numbers: numbers,
-        leads: leads,
-        sets: sets,
-        ports: [ports[0], ports[1], ports[2]],
-    }
-}
-
-fn start(shape: u64, seed: u64) -> State {
-    if of(shape, ANY) == 1 {
-        return any_state(seed);
-    }
-    lead_in(shape, seed)
 }
 
 // ---- the run
 
-// A batch, and a few requests after it.
-fn turn(before: State, shape: u64, r: u64, bytes: &mut Bytes, counts: &mut Counts) -> State {
-    let numbers = before.numbers;
-    draw(shape, r, &numbers, bytes);
-    let all = &bytes[..];
-    let n = length_of(shifted(r)) % 529;
-    let after = try_batch(before, &all[0..n], counts);
-    go_on(after, shape, shifted(shifted(r)))
-}
+const SHAPES: [Shape; 5] = [
+    Shape {
+        name: "one job at a time:",
+        cells: 255,
+        jobs: 10,
+        writes: 40,
+        bad: 0,
+        alone: 1,
+        is_any: false,
+    },
+    Shape {
+        name: "few cells:",
+        cells: 16,
+        jobs: 6,
+        writes: 4,
+        bad: 0,
+        alone: 4,
+        is_any: false,
+    },
+    Shape {
+        name: "bad items:",
+        cells: 64,
+        jobs: 12,
+        writes: 8,
+        bad: 24,
+        alone: 4,
+        is_any: false,
+    },
+    Shape {
+        name: "32 jobs:",
+        cells: 255,
+        jobs: 32,
+        writes: 40,
+        bad: 0,
+        alone: 2,
+        is_any: false,
+    },
+    Shape {
+        name: "any content:",
+        cells: 255,
+        jobs: 32,
+        writes: 4,
+        bad: 96,
+        alone: 2,
+        is_any: true,
+    },
+];
 
-// Twelve batches from one start.
-fn window(shape: u64, seed: u64, bytes: &mut Bytes, counts: &mut Counts) {
-    let mut state = start(shape, seed);
+// Sixty windows of a shape.
+fn windows(shape: &Shape, seed: Random) -> Counts {
+    let mut counts = Counts::NONE;
     let mut r = seed;
-    let mut i: usize = 0;
-    while i < 12 {
-        r = shifted(std::num::wrapping_add_u64(r, 0x9e37_79b9_7f4a_7c15));
-        state = turn(state, shape, r, bytes, counts);
-        i += 1;
+    for _ in 0..60 {
+        r = r.apart();
+        shape.window(r, &mut counts);
     }
+    counts
 }
 
-fn windows(shape: u64, seed: u64, counts: &mut Counts) {
-    let mut bytes = [0u8; 528];
-    let mut r = seed;
-    let mut i: usize = 0;
-    while i < 60 {
-        r = shifted(std::num::wrapping_add_u64(r, 0x9e37_79b9_7f4a_7c15));
-        window(shape, r, &mut bytes, counts);
-        i += 1;
-    }
-}
-
-fn say(rt: &impl Print, words: &[u8]) {
+fn say(rt: &impl Print, words: &[u8], count: u64) {
     host::write_all(rt, words);
+    host::write_all(rt, b" ");
+    host::print_decimal(rt, count);
 }
 
-fn say_count(rt: &impl Print, counts: &Counts, i: usize) {
-    say(rt, b" ");
-    host::print_decimal(rt, count(counts, i));
-}
-
-fn say_counts(rt: &impl Print, counts: &Counts) {
-    say_count(rt, counts, BATCHES);
-    say(rt, b" batches of");
-    say_count(rt, counts, ITEMS);
-    say(rt, b" items; codes 0 1 2 3 7 25:");
-    say_count(rt, counts, 0);
-    say_count(rt, counts, 1);
-    say_count(rt, counts, 2);
-    say_count(rt, counts, 3);
-    say_count(rt, counts, 7);
-    say_count(rt, counts, 25);
-    say(rt, b"; refused past place 0:");
-    say_count(rt, counts, LATER);
-    say(rt, b"; adds granted:");
-    say_count(rt, counts, ADDS);
-    say(rt, b"; differ:");
-    say_count(rt, counts, DIFFER);
-    say(rt, b"\n");
-}
-
-fn add(sums: &mut Counts, counts: &Counts) {
-    let mut i: usize = 0;
-    while i < 32 {
-        bump(sums, i, count(counts, i));
-        i += 1;
+fn say_counts(rt: &impl Print, name: &[u8], counts: &Counts) {
+    say(rt, name, counts.batches);
+    say(rt, b" batches of", counts.items);
+    say(rt, b" items; codes 0 1 2 3 7 25:", counts.codes[0]);
+    for code in [1, 2, 3, 7, 25] {
+        say(rt, b"", counts.codes[code]);
     }
-}
-
-fn shape_of(k: u64) -> u64 {
-    match k {
-        // any alone bad writes jobs cells
-        0 => 0x00_01_00_28_0a_ff,
-        1 => 0x00_04_00_04_06_10,
-        2 => 0x00_04_18_08_0c_40,
-        3 => 0x00_02_00_28_20_ff,
-        _ => 0x01_02_60_04_20_ff,
-    }
-}
-
-fn say_name(rt: &impl Print, k: u64) {
-    match k {
-        0 => say(rt, b"one job at a time:"),
-        1 => say(rt, b"few cells:"),
-        2 => say(rt, b"bad items:"),
-        3 => say(rt, b"32 jobs:"),
-        _ => say(rt, b"any content:"),
-    }
+    say(rt, b"; refused past place 0:", counts.later);
+    say(rt, b"; adds granted:", counts.adds);
+    say(rt, b"; differ:", counts.differ);
+    host::write_all(rt, b"\n");
 }
 
 fn main(rt: HostRuntime) {
-    let mut sums = [0u64; 32];
-    let mut k: u64 = 0;
-    while k < 5 {
-        let mut counts = [0u64; 32];
-        windows(shape_of(k), k, &mut counts);
-        say_name(&rt, k);
-        say_counts(&rt, &counts);
-        add(&mut sums, &counts);
-        k += 1;
+    let mut sums = Counts::NONE;
+    for (shape, seed) in SHAPES.iter().zip(0..5) {
+        let counts = windows(shape, Random(seed));
+        say_counts(&rt, shape.name.as_bytes(), &counts);
+        sums.add(&counts);
     }
-    say(&rt, b"all:");
-    say_counts(&rt, &sums);
+    say_counts(&rt, b"all:", &sums);
 }

@@ -1,4 +1,3 @@
 pub mod FaultLaws
 pub mod ReadLaws
-pub mod AnswerLaws
 pub mod OneAnswer

@@ -3,19 +3,39 @@
 use mathlib.Core.Path.{◌≡◌, sym, ap, subst, ◌∙◌}
 use mathlib.Core.Logic.{⊎_elim}
 use mathlib.Core.Option.{Option, none, some}
-use mathlib.Core.List.{List}
+use mathlib.Core.List.{List, ◌++◌}
 use Prim.Native.Nat.{ℕ, zero, suc, ◌+◌, ◌*◌, ◌/◌, ◌%◌, ◌≤◌, ◌<◌}
 use native.Mathlib.Omega.{arith}
 use lib.ListN.{length, get_or, take, drop, length-append, length-drop}
-use lib.Seq.{get_or-take, get_or-drop, take-take, drop-drop}
+use lib.Seq.{get_or-take, get_or-drop, take_at, drop_at, drop-drop}
 use Rattle.graph.specs.Decide.{lt_test, answer}
 use Rattle.blocks.specs.Blocks.{Fault, block_at, count_in, lowest_fault, records_in, first_records, log_in, refused, filled, judged, read}
 use Rattle.blocks.proofs.SoundLaws.{count_most}
 use Rattle.blocks.proofs.RunLaws.{sound, record_size, sizes, fills, fills_not, read_on}
 use Rattle.sums.specs.Sums.{with_run}
 use Rattle.blockreader.specs.Answers.{fault_of, Unfaulted}
-use Rattle.blockreader.specs.declared.Found.{Found}
-use Rattle.sums.specs.ByteLaws.{drop_take, put_next, done_put}
+use Rattle.std.specs.declared.result.Result.{Result}
+use Rattle.blockreader.specs.declared.Unread.{Unread}
+use Rattle.sums.specs.ByteLaws.{put_next, done_put}
+
+-- the block at a place, taken off what is left of the run, and what is then left
+pub record Off (n k : ℕ) (run b left : List ℕ) : Type 0 where
+  pub inside : k < n
+  pub this : b ≡ block_at k run
+  pub past : left ≡ drop (512 * (k + 1)) run
+
+pub block_off : {rest : List ℕ} {size j : ℕ} (n k : ℕ) (run b left : List ℕ) → length run ≡ 512 * n → size ≡ 512 → rest ≡ drop (512 * j) run → k ≡ j → rest ≡ b ++ left → length b ≡ size
+    → Off n k run b left
+block_off n k run b left whole is there same e long =
+    let here : drop (512 * k) run ≡ b ++ left = ap (λ (i : ℕ). drop (512 * i) run) same ∙ sym there ∙ e in
+    let l : length b ≡ 512 = long ∙ is in
+    let much = sym (length-drop (512 * k) run) ∙ ap length here ∙ length-append b left in
+    let on : 512 * k + 512 ≡ 512 * (k + 1) = omega arith in
+    record {
+      inside = omega arith;
+      this = sym (ap (take 512) here ∙ take_at b left 512 l);
+      past = sym (drop_at b left 512 l) ∙ sym (ap (drop 512) here) ∙ drop-drop 512 (512 * k) run ∙ ap (λ (j : ℕ). drop j run) on;
+    }
 
 -- the records of the first blocks are no more than those of more of them
 records_grow : (blocks : List ℕ) (n m : ℕ) → m ≤ n → length (first_records m blocks) ≤ length (first_records n blocks)
@@ -39,19 +59,16 @@ module _ (n : ℕ) (blocks : List ℕ) (u : Unfaulted n blocks) where
         let on : k * 512 + 4 ≡ 512 * k + 4 = omega arith in
         ap (λ (i : ℕ). get_or blocks i 0) on ∙ sym e ∙ (omega arith)
 
-    -- its records, in the run
-    pub records_there : (m : ℕ) → m ≡ 8 * count_in (block_at k blocks) → take m (drop (k * 512 + 8) blocks) ≡ records_in (block_at k blocks)
+    -- of a block's own bytes
+    pub low_count : get_or (block_at k blocks) 4 0 ≡ count_in (block_at k blocks)
+    low_count = let few = few_records in omega arith
+
+    -- its records
+    pub records_there : (m : ℕ) → m ≡ get_or (block_at k blocks) 4 0 * 8 → take m (drop 8 (block_at k blocks)) ≡ records_in (block_at k blocks)
     records_there m e =
-        let few = few_records in
-        let long = u.whole in
-        let part = drop (512 * k) blocks in
-        let enough : 8 ≤ length part = simp length-drop (omega arith) in
-        let c = count_in (block_at k blocks) in
-        let on : 512 * k + 8 ≡ k * 512 + 8 = omega arith in
-        ap (λ (j : ℕ). take j (drop (k * 512 + 8) blocks)) e
-        ∙ sym (ap (take (8 * c)) (drop_take 8 504 part enough)
-        ∙ take-take (8 * c) 504 (drop 8 part) (omega arith)
-        ∙ ap (take (8 * c)) (drop-drop 8 (512 * k) blocks ∙ ap (λ (j : ℕ). drop j blocks) on))
+        let low = low_count in
+        let on : m ≡ 8 * count_in (block_at k blocks) = omega arith in
+        ap (λ (j : ℕ). take j (drop 8 (block_at k blocks))) on
 
     pub records_length : length (records_in (block_at k blocks)) ≡ 8 * count_in (block_at k blocks)
     records_length = record_size blocks n u.whole u.few u.none_found k inside
@@ -92,7 +109,7 @@ module _ (run d : List ℕ) (whole : length run % 512 ≡ 0) (few : length run �
   by_fault : read run d ≡ judged (lowest_fault many run many) run d
   by_fault = read_on run d (⊎_elim (λ f. f whole) (λ q. omega arith))
 
-  pub read_fault : (f : Found) (g : Fault) → fault_of f ≡ lowest_fault many run many → fault_of f ≡ some g → refused g.code g.place d ≡ read run d
+  pub read_fault : (f : Result (Unit {0}) Unread) (g : Fault) → fault_of f ≡ lowest_fault many run many → fault_of f ≡ some g → refused g.code g.place d ≡ read run d
   read_fault f g e x = sym (by_fault ∙ ap (λ (o : Option Fault). judged o run d) (sym e ∙ x))
 
   module _ (good : none ≡ lowest_fault many run many) where

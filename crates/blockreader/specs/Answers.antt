@@ -2,24 +2,35 @@
 -- Assumes nothing.
 use Rattle.std.specs.Prelude.{◌≡◌, List, ℕ, ◌*◌, ◌≤◌, length}
 use Rattle.std.proofs.Math.Option.{Option, none, some}
-use Rattle.blocks.specs.Blocks.{Fault, fault, lowest_fault, Filled, refused}
-use Rattle.blockreader.specs.declared.ReadBack.{ReadBack}
-use Rattle.blockreader.specs.declared.Found.{Found}
-use Rattle.blockreader.specs.declared.Found.TheVariants.{Nothing}
+use Rattle.std.specs.declared.result.Result.{Result}
+use Rattle.std.specs.declared.result.Result.TheVariants.{Ok, Err}
+use Rattle.codes.specs.Codes.{code_in, place_in}
+use Rattle.blocks.specs.Blocks.{Fault, fault, lowest_fault, Filled}
+use Rattle.blockreader.specs.declared.Unread.{Unread}
+use Rattle.blockreader.specs.declared.Unread.TheVariants.{Length, Sums, Form, Short}
 
--- document 02's code and place of each answer, with what then stands in the lent bytes
-abbrev pub answered : ReadBack → List ℕ → Filled
-answered (ReadBack.Done n) lent = record { code = 0; place = n; bytes = lent }
-answered ReadBack.Length lent = refused 21 0 lent
-answered (ReadBack.Sums k) lent = refused 22 k lent
-answered (ReadBack.Form k) lent = refused 23 k lent
-answered ReadBack.Short lent = refused 24 0 lent
+-- document 02's code of each refusal
+abbrev pub code_of : Unread → ℕ
+code_of Length = 21
+code_of (Sums k) = 22
+code_of (Form k) = 23
+code_of Short = 24
+
+-- the block that has the fault, and 0 where it is none of a block
+abbrev pub block_of : Unread → ℕ
+block_of Length = 0
+block_of (Sums k) = k
+block_of (Form k) = k
+block_of Short = 0
+
+-- the code and place of each answer, 0 and the count of the log's bytes or a refusal's, with what then stands in the lent bytes
+abbrev pub answered : Result ℕ Unread → List ℕ → Filled
+answered r lent = record { code = code_in code_of r; place = place_in block_of r; bytes = lent }
 
 -- the fault that was found
-abbrev pub fault_of : Found → Option Fault
-fault_of Nothing = none
-fault_of (Found.Sums k) = some (fault 22 k)
-fault_of (Found.Form k) = some (fault 23 k)
+abbrev pub fault_of : Result (Unit {0}) Unread → Option Fault
+fault_of (Ok _) = none
+fault_of (Err e) = some (fault (code_of e) (block_of e))
 
 -- n blocks without fault
 pub record Unfaulted (n : ℕ) (blocks : List ℕ) : Type 0 where

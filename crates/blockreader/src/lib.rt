@@ -1,69 +1,56 @@
 // Ledger blocks: the reader of a run of blocks of 512 bytes.
 #![tactic(auto)]
 
-ghost use Rattle.std.specs.Prelude.{◌≡◌, not, [], ◌*◌, ◌%◌, ◌≤◌, ◌<◌, eqb, length, drop};
-ghost use Rattle.graph.specs.Decide.{every_of};
+ghost use Rattle.std.specs.Prelude.{◌≡◌, not, ◌*◌, ◌%◌, ◌≤◌, ◌<◌, eqb, length, drop};
+ghost use Rattle.std.specs.List.{list_any};
 ghost use Rattle.blocks.specs.Blocks.{count_wrong, fault_in, lowest_fault, first_records, read};
 ghost use Rattle.sums.specs.Sums.{with_run};
-ghost use Rattle.blockreader.specs.Answers.{answered, fault_of, Unfaulted};
+ghost use Rattle.blockreader.specs.Answers.{code_of, block_of, answered, fault_of, Unfaulted};
 
-// What the reader answers: the count of bytes of the log, or one of the refusals with its place.
-#[derive(Clone, Copy)]
-pub enum ReadBack {
-    Done(usize),
+use codes::Told;
+use sums::Sums;
+
+// Why blocks are not read; of a fault, the block that has it.
+#[derive(Clone, Copy, PartialEq, Eq)]
+pub enum Unread {
     Length,
     Sums(usize),
     Form(usize),
     Short,
 }
 
-impl ReadBack {
-    // Document 02's code.
-    pub fn code(self) -> u32
-        ensures { result ≡ (answered self []).code }
-    {
+// Document 02's codes.
+impl Told for Unread {
+    ghost number = { code_of };
+
+    ghost place_of = { block_of };
+
+    fn code(self) -> u32 {
         match self {
-            ReadBack::Done(_) => 0,
-            ReadBack::Length => 21,
-            ReadBack::Sums(_) => 22,
-            ReadBack::Form(_) => 23,
-            ReadBack::Short => 24,
+            Unread::Length => 21,
+            Unread::Sums(_) => 22,
+            Unread::Form(_) => 23,
+            Unread::Short => 24,
         }
     }
 
-    // The place that goes with it; of a log, the count of its bytes.
-    pub fn place(self) -> usize
-        ensures { result ≡ (answered self []).place }
-    {
+    fn place(self) -> usize {
         match self {
-            ReadBack::Done(n) => n,
-            ReadBack::Length => 0,
-            ReadBack::Sums(k) => k,
-            ReadBack::Form(k) => k,
-            ReadBack::Short => 0,
+            Unread::Sums(k) | Unread::Form(k) => k,
+            Unread::Length | Unread::Short => 0,
         }
     }
 }
 
-// The fault of a block, with its place.
-#[derive(Clone, Copy)]
-enum Found {
-    Nothing,
-    Sums(usize),
-    Form(usize),
-}
-
-// Is a byte from a place on not zero?
+// Is a byte from a place on not zero? It is asked of words, as byte by byte a block with few records takes twice the time.
 fn used(front: &[u8], from: usize) -> bool
     requires { (length front.now ≡ 504) × (from % 4 ≡ 0) }
-    ensures { result ≡ not (every_of (eqb 0) (drop from front.now)) }
+    ensures { result ≡ list_any (λ x. not (eqb x 0)) (drop from front.now) }
 {
-    let mut i = from;
-    while i < 504 {
+    for i in (from..504).step_by(4) {
         if sums::word_at(front, i) != 0 {
             return true;
         }
-        i += 4;
     }
     false
 }
@@ -86,54 +73,42 @@ fn miscounted(n: usize, k: usize, count: usize) -> bool
     62 < count
 }
 
-// The fault of the block at place k of n.
-fn fault_at(n: usize, k: usize, bytes: &[u8]) -> Found
+// The fault of the block at place k of n. The count of blocks stands beside them here and below, as the definitions of the contracts (`fault_in`, `lowest_fault`, `first_records`) go by it.
+fn fault_at(n: usize, k: usize, bytes: &[u8]) -> Result<(), Unread>
     requires { (length bytes.now ≡ 512) × (k < n) × (n ≤ 67) }
     ensures { fault_of result ≡ fault_in n k bytes.now }
 {
     let front = &bytes[..504];
-    let s = sums::add_up(front);
-    if sums::word_at(bytes, 504) != s.first {
-        return Found::Sums(k);
-    }
-    if sums::word_at(bytes, 508) != s.second {
-        return Found::Sums(k);
+    let stored = Sums {
+        first: sums::word_at(bytes, 504),
+        second: sums::word_at(bytes, 508),
+    };
+    if stored != sums::add_up(front) {
+        return Err(Unread::Sums(k));
     }
     if sums::word_at(bytes, 0) as usize != k {
-        return Found::Form(k);
+        return Err(Unread::Form(k));
     }
     // the two zero bytes are the upper half of this count
     let count = sums::word_at(bytes, 4) as usize;
     if miscounted(n, k, count) {
-        return Found::Form(k);
+        return Err(Unread::Form(k));
     }
     if used(front, 8 + 8 * count) {
-        return Found::Form(k);
+        return Err(Unread::Form(k));
     }
-    Found::Nothing
+    Ok(())
 }
 
-// The fault of the lowest faulty block.
-fn lowest(n: usize, blocks: &[u8]) -> Found
+// The fault of the lowest faulty block of n.
+fn lowest(n: usize, blocks: &[u8]) -> Result<(), Unread>
     requires { (length blocks.now ≡ 512 * n) × (n ≤ 67) }
     ensures { fault_of result ≡ lowest_fault n blocks.now n }
 {
-    let mut k: usize = 0;
-    while k < n {
-        let at = k * 512;
-        let end = at + 512;
-        match fault_at(n, k, &blocks[at..end]) {
-            Found::Nothing => {}
-            Found::Sums(p) => {
-                return Found::Sums(p);
-            }
-            Found::Form(p) => {
-                return Found::Form(p);
-            }
-        }
-        k += 1;
+    for (k, block) in blocks.chunks_exact(512).enumerate() {
+        fault_at(n, k, block)?;
     }
-    Found::Nothing
+    Ok(())
 }
 
 // How many bytes the log in n blocks without fault has.
@@ -141,11 +116,10 @@ fn size_in(n: usize, blocks: &[u8]) -> usize
     requires { Unfaulted n blocks.now }
     ensures { result ≡ length (first_records n blocks.now) }
 {
-    if n == 0 {
-        return 0;
+    match n.checked_sub(1) {
+        Some(last) => last * 496 + blocks[last * 512 + 4] as usize * 8,
+        None => 0,
     }
-    let last = (n - 1) * 512;
-    (n - 1) * 496 + blocks[last + 4] as usize * 8
 }
 
 // That log, in lent bytes with room for it.
@@ -153,38 +127,27 @@ fn copy_records(n: usize, blocks: &[u8], out: &mut [u8])
     requires { Unfaulted n blocks.now × (length (first_records n blocks.now) ≤ length out.old) }
     ensures { out.new ≡ with_run out.old 0 (first_records n blocks.now) }
 {
-    let mut k: usize = 0;
-    while k < n {
-        let at = k * 512;
-        let from = at + 8;
-        let end = from + blocks[at + 4] as usize * 8;
-        text::put_text(&blocks[from..end], out, k * 496);
-        k += 1;
+    for (k, block) in blocks.chunks_exact(512).enumerate() {
+        let size = block[4] as usize * 8;
+        let to = k * 496;
+        out[to..to + size].copy_from_slice(&block[8..8 + size]);
     }
 }
 
-// The log in a run of blocks, in the lent bytes. On a refusal they stay.
-pub fn read_blocks(blocks: &[u8], out: &mut [u8]) -> ReadBack
+// The log in a run of blocks, in the lent bytes; how many bytes it has. On a refusal they stay.
+pub fn read_blocks(blocks: &[u8], out: &mut [u8]) -> Result<usize, Unread>
     ensures { answered result out.new ≡ read blocks.now out.old }
 {
     let size = blocks.len();
-    if size % 512 != 0 {
-        return ReadBack::Length;
-    }
-    if 34304 < size {
-        return ReadBack::Length;
+    if size % 512 != 0 || 34304 < size {
+        return Err(Unread::Length);
     }
     let n = size / 512;
-    match lowest(n, blocks) {
-        Found::Sums(k) => ReadBack::Sums(k),
-        Found::Form(k) => ReadBack::Form(k),
-        Found::Nothing => {
-            let many = size_in(n, blocks);
-            if out.len() < many {
-                return ReadBack::Short;
-            }
-            copy_records(n, blocks, out);
-            ReadBack::Done(many)
-        }
+    lowest(n, blocks)?;
+    let many = size_in(n, blocks);
+    if out.len() < many {
+        return Err(Unread::Short);
     }
+    copy_records(n, blocks, out);
+    Ok(many)
 }

@@ -1,3 +1,2 @@
 pub mod WriteLaws
-pub mod AnswerLaws
 pub mod OneAnswer

@@ -2,37 +2,35 @@
 -- function, named after it, of the contract itself: `Post` is what Rattle reads of the function's `ensures`. The contract of the writer gives the answer that its
 -- result is numbered, and that can be undone (`written_back`).
 -- Assumes nothing.
-use mathlib.Core.Path.{◌≡◌, refl, sym, ap, ◌∙◌}
-use mathlib.Core.Bool.{cond}
-use mathlib.Core.List.{List}
-use Prim.Native.Nat.{ℕ}
-use lib.Dec.{eqb}
+use Rattle.std.proofs.Common.{◌≡◌, ℕ, List, cond, eqb, refl, sym, ap, ◌∙◌}
+use Rattle.std.specs.declared.result.Result.{Result}
+use Rattle.std.specs.declared.result.Result.TheVariants.{Ok, Err}
 use contract.Lifetimes.{Lfts}
 use borrow.Fn.Kinds.{Dens, res_t, ended_of}
 use denote.Triple.Clauses.{AtExit}
 use Rattle.blocks.specs.Blocks.{Filled}
 use Rattle.sums.proofs.OneAnswer.{One}
 use Rattle.blockwriter.specs.Answers.{numbered}
-use Rattle.blockwriter.specs.declared.Written.{Written}
-use Rattle.blockwriter.proofs.AnswerLaws.{written_as}
-use Rattle.blockwriter.proofs.Written.code.Kinds as code_kinds
-use Rattle.blockwriter.proofs.Written.code.Reads as code_Reads
-use Rattle.blockwriter.proofs.Written.place.Kinds as place_kinds
-use Rattle.blockwriter.proofs.Written.place.Reads as place_reads
+use Rattle.blockwriter.specs.declared.Unwritten.{Unwritten}
+use Rattle.blockwriter.specs.declared.Unwritten.TheVariants.{Length, Short}
+use Rattle.blockwriter.proofs.UnwrittenTold.code.Kinds as code_kinds
+use Rattle.blockwriter.proofs.UnwrittenTold.code.Reads as code_reads
+use Rattle.blockwriter.proofs.UnwrittenTold.place.Kinds as place_kinds
+use Rattle.blockwriter.proofs.UnwrittenTold.place.Reads as place_reads
 use Rattle.blockwriter.proofs.write_blocks.Kinds as write_kinds
 use Rattle.blockwriter.proofs.write_blocks.Reads as write_reads
 
 -- the result of an answer
-written_of : Filled → Written
-written_of a = let c = a.code in cond (eqb c 0) (Written.Done a.place) (cond (eqb c 11) Written.Length Written.Short)
+written_of : Filled → Result ℕ Unwritten
+written_of a = let c = a.code in cond (eqb c 0) (Ok a.place) (cond (eqb c 11) (Err Length) (Err Short))
 
-written_back : (w : Written) (lent : List ℕ) → written_of (numbered w lent) ≡ w
+written_back : (w : Result ℕ Unwritten) (lent : List ℕ) → written_of (numbered w lent) ≡ w
 unfolding written_of
-written_back (Written.Done n) lent = refl
-written_back Written.Length lent = refl
-written_back Written.Short lent = refl
+written_back (Ok n) lent = refl
+written_back (Err Length) lent = refl
+written_back (Err Short) lent = refl
 
-pub one_written_code : One 0 code_kinds.ps code_kinds.r code_Reads.Post
+pub one_written_code : One 0 code_kinds.ps code_kinds.r code_reads.Post
 one_written_code κs a x y s t p q = p ∙ sym q
 
 pub one_written_place : One 0 place_kinds.ps place_kinds.r place_reads.Post
@@ -44,7 +42,5 @@ pub one_write_blocks : (κs : Lfts 2) (a : Dens κs write_kinds.ps) (x y : (res_
     → write_reads.Post κs a y t
     → (x ≡ y) × (s.1.0.now ≡ t.1.0.now)
 one_write_blocks κs a x y s t p q =
-    let same = p ∙ sym q in (
-      sym (written_back x s.1.0.now) ∙ ap written_of same ∙ written_back y t.1.0.now,
-      (written_as x s.1.0.now).bytes ∙ ap (λ (f : Filled). f.bytes) same ∙ sym (written_as y t.1.0.now).bytes,
-    )
+    let same = p ∙ sym q in
+    (sym (written_back x s.1.0.now) ∙ ap written_of same ∙ written_back y t.1.0.now, ap (λ (f : Filled). f.bytes) same)

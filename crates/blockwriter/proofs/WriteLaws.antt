@@ -2,11 +2,12 @@
 -- Assumes nothing.
 use mathlib.Core.Path.{◌≡◌, sym, ap, ◌∙◌}
 use mathlib.Core.Logic.{⊎_elim}
-use mathlib.Core.List.{List, ◌∷◌, ◌++◌, append_assoc}
+use mathlib.Core.List.{List, [], ◌∷◌, ◌++◌, append_assoc}
 use Prim.Native.Nat.{ℕ, suc, ◌+◌, ◌*◌, ◌-◌, ◌/◌, ◌%◌, ◌≤◌, min}
 use native.Mathlib.Omega.{arith}
-use lib.ListN.{length, take, drop, replicate, length-drop, length-replicate}
-use lib.Seq.{take_all}
+use lib.ListN.{length, take, drop, replicate, length-drop, length-replicate, length-append, drop_of_length-le}
+use lib.Seq.{take_all, length-take-le, take_at, drop_at, drop-drop}
+use Rattle.std.proofs.lemmas.List.{append-nil, nil_from_length}
 use Rattle.graph.specs.Decide.{le_test, answer}
 use Rattle.history.specs.Formats.{bytes_of}
 use Rattle.blocks.specs.Blocks.{sums, front, block, run_of, first_blocks, block_count, blocks_of, write}
@@ -14,11 +15,23 @@ use Rattle.blocks.proofs.SoundLaws.{block_length}
 use Rattle.blocks.proofs.RunLaws.{run_fits, blocks_length, blocks_of_length, fills, write_on}
 use Rattle.blocks.specs.Answers.{Log}
 use Rattle.sums.specs.Sums.{with_run}
-use Rattle.sums.specs.ByteLaws.{Put, puts, put_next, done_put}
+use Rattle.sums.specs.ByteLaws.{Put, puts, put_next, part_put, done_put}
 
 module _ (k : ℕ) (run d : List ℕ) (fits : length run ≤ 496) (long : length d ≡ 512) where
   abbrev zeros : List ℕ
   zeros = replicate (496 - length run) 0
+
+  -- records copied, and zeros filled in, where a part of the block is lent for it
+  pub records_put : (d₂ copy : List ℕ) (m : ℕ) → copy ≡ run → m ≡ length run → take 8 d₂ ++ (copy ++ drop m (drop 8 d₂)) ≡ with_run d₂ 8 run
+  records_put d₂ copy m e n = part_put d₂ copy 8 m (n ∙ sym (ap length e)) ∙ ap (with_run d₂ 8) e
+
+  pub zeros_put : (d₃ fill : List ℕ) (m : ℕ) → length d₃ ≡ 512 → m ≡ 504 - (8 + length run) → fill ≡ replicate (length (take m (drop (8 + length run) d₃))) 0
+      → take (8 + length run) d₃ ++ (fill ++ drop m (drop (8 + length run) d₃)) ≡ with_run d₃ (8 + length run) zeros
+  zeros_put d₃ fill m l n e =
+      let size = length-drop (8 + length run) d₃ in
+      let few : length (take m (drop (8 + length run) d₃)) ≡ 496 - length run = length-take-le m (drop (8 + length run) d₃) (omega arith) ∙ omega arith in
+      let same : fill ≡ zeros = e ∙ ap (λ (j : ℕ). replicate j 0) few in
+      part_put d₃ fill (8 + length run) m (omega (arith, ap length same, length-replicate {A = ℕ} (496 - length run) 0)) ∙ ap (with_run d₃ (8 + length run)) same
 
   -- what stands before the sums
   module _ (d₁ d₂ d₃ d₄ : List ℕ) (e₁ : d₁ ≡ with_run d 0 (bytes_of 4 k)) (e₂ : d₂ ≡ with_run d₁ 4 (bytes_of 4 (length run / 8))) (e₃ : d₃ ≡ with_run d₂ 8 run)
@@ -71,16 +84,22 @@ module _ (k : ℕ) (run d : List ℕ) (fits : length run ≤ 496) (long : length
 
 -- ---- the blocks of a log
 
--- the run of block k, cut where the log ends
-pub run_cut : (log : List ℕ) (k m : ℕ) → m ≡ min (length log - k * 496) 496 → take m (drop (k * 496) log) ≡ run_of k log
-run_cut log k m e =
-    let on : k * 496 ≡ 496 * k = omega arith in
-    let size = length-drop (496 * k) log in
-    ap (λ (j : ℕ). take m (drop j log)) on
-    ∙ ⊎_elim
-    (λ p. let f : m ≡ 496 = omega arith in ap (λ (j : ℕ). take j (drop (496 * k) log)) f)
-    (λ q. let g : 496 ≤ length (drop (496 * k) log) → ⊥ = q in take_all m (drop (496 * k) log) (omega arith) ∙ sym (take_all 496 (drop (496 * k) log) (omega arith)))
-    (answer (le_test 496 (length (drop (496 * k) log))))
+-- the run of block k, taken off what is left of the log, and what is then left
+pub run_off : (log run left : List ℕ) (k : ℕ) → drop (496 * k) log ≡ run ++ left → length run ≡ min 496 (length (drop (496 * k) log))
+    → (run ≡ run_of k log) × (left ≡ drop (496 * (k + 1)) log)
+run_off log run left k e m =
+    let rest = drop (496 * k) log in
+    let on : 496 * k + 496 ≡ 496 * (k + 1) = omega arith in
+    let size = ap length e ∙ length-append run left in
+    let past = drop-drop 496 (496 * k) log ∙ ap (λ (j : ℕ). drop j log) on in
+    ⊎_elim
+    (λ p. let f : 496 ≡ length run = omega arith in
+    (sym (ap (take 496) e ∙ take_at run left 496 (sym f)), sym (drop_at run left 496 (sym f)) ∙ sym (ap (drop 496) e) ∙ past))
+    (λ q. let g : 496 ≤ length rest → ⊥ = q in
+    let none : left ≡ [] = nil_from_length left (omega arith) in
+    let whole : rest ≡ run = e ∙ ap (λ (l : List ℕ). run ++ l) none ∙ append-nil run in
+    (sym (take_all 496 rest (omega arith) ∙ whole), none ∙ sym (drop_of_length-le rest {i = 496} (omega arith)) ∙ past))
+    (answer (le_test 496 (length rest)))
 
 -- one block more
 pub blocks_turn : (log d now : List ℕ) (k : ℕ) → k * 512 + 512 ≤ length d → now ≡ with_run d 0 (first_blocks k log)

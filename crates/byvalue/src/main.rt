@@ -4,10 +4,8 @@
 // is not read.
 #![tactic(auto)]
 
-ghost use Rattle.std.specs.Prelude.{◌+◌, ◌<◌, ◌≤◌, length};
-
-use arbiter::{JobNumber, State};
-use std::io::Read;
+use arbiter::{Answer, JobNumber, Replied, State};
+use host::Sink;
 
 // How many requests were made and granted so far, and the sum of their replies.
 #[derive(Clone, Copy)]
@@ -17,136 +15,53 @@ struct Tally {
     sum: u32,
 }
 
-// A reply more in the sum. The sum stays below a prime that is below 2 ^ 32, and what is summed is far below 2 ^ 64.
-fn summed(sum: u32, code: u32, job: u32) -> u32 {
-    (((sum as u64) * 31 + (code as u64) * 7 + (job as u64)) % 4294967291) as u32
-}
-
-fn counted(tally: Tally, code: u32, job: u32) -> Tally {
-    let mut granted = tally.granted;
-    if code == 0 {
-        granted = std::num::wrapping_add_u64(granted, 1);
+impl Tally {
+    // An answer more. The sum stays below a prime that is below 2 ^ 32, and what is summed is far below 2 ^ 64.
+    fn count(&mut self, answer: Answer) {
+        self.requests = self.requests.wrapping_add(1);
+        if answer.is_ok() {
+            self.granted = self.granted.wrapping_add(1);
+        }
+        let code = answer.code() as u64;
+        let job = answer.job().0 as u64;
+        self.sum = (((self.sum as u64) * 31 + code * 7 + job) % 4294967291) as u32;
     }
-    Tally {
-        requests: std::num::wrapping_add_u64(tally.requests, 1),
-        granted: granted,
-        sum: summed(tally.sum, code, job),
-    }
-}
-
-// The eight bytes from a place on.
-fn request_at(bytes: &[u8], at: usize) -> [u8; 8]
-    requires { at + 8 ≤ length bytes.now }
-{
-    [
-        bytes[at],
-        bytes[at + 1],
-        bytes[at + 2],
-        bytes[at + 3],
-        bytes[at + 4],
-        bytes[at + 5],
-        bytes[at + 6],
-        bytes[at + 7],
-    ]
 }
 
 // Where a run stands.
-#[derive(Clone, Copy)]
+#[derive(Drop)]
 struct Run {
     state: State,
     tally: Tally,
 }
 
-// The whole records of a batch. The state is handed on by value from step to step.
-fn batch(before: Run, bytes: &[u8]) -> Run {
-    let mut state = before.state;
-    let mut tally = before.tally;
-    let count = bytes.len() / 8;
-    let mut i: usize = 0;
-    while i < count {
-        let s = state.step(request_at(bytes, i * 8));
-        state = s.state;
-        let answer = s.answer;
-        tally = counted(tally, answer.code(), answer.job().0);
-        i += 1;
-    }
-    Run {
-        state: state,
-        tally: tally,
+impl Sink for Run {
+    // The whole records of a part. The state is handed on by value from step to step.
+    fn take(&mut self, part: &[u8]) -> bool {
+        let (requests, _) = part.as_chunks::<8>();
+        let mut state = self.state;
+        for request in requests {
+            let (next, answer) = state.step(*request);
+            state = next;
+            self.tally.count(answer);
+        }
+        self.state = state;
+        true
     }
 }
 
-// One read behind the bytes that wait: how many came, 0 at the end or where the read failed.
-fn read_behind(input: &mut impl Read, buf: &mut [u8], from: usize) -> usize
-    requires { from ≤ length buf.old }
-    ensures { from + result ≤ length buf.old }
-{
-    host::read_some(input, &mut buf[from..])
-}
-
-// One turn less, and none after the end.
-fn turns_left(turns: u64, got: usize) -> u64
-    requires { 0 < turns }
-    ensures { result < turns }
-{
-    if got == 0 {
-        return 0;
-    }
-    turns - 1
-}
-
-// Copies count bytes to the start.
-fn to_start(buf: &mut [u8], from: usize, count: usize)
-    requires { from + count ≤ length buf.old }
-{
-    let mut i: usize = 0;
-    while i < count {
-        buf[i] = buf[from + i];
-        i += 1;
-    }
-}
-
-fn start() -> Run {
-    Run {
+fn main(rt: HostRuntime) {
+    let mut run = Run {
         state: State::fresh(JobNumber(1)),
         tally: Tally {
             requests: 0,
             granted: 0,
             sum: 0,
         },
-    }
-}
-
-// All of standard input.
-fn all(input: &mut impl Read, buf: &mut [u8]) -> Tally {
-    let mut run = start();
-    let mut waiting: usize = 0;
-    // No input outlives so many turns.
-    let mut turns: u64 = 4611686018427387904;
-    while turns > 0 {
-        let got = read_behind(input, buf, waiting);
-        turns = turns_left(turns, got);
-        waiting += got;
-        if 32768 <= waiting {
-            run = batch(run, &buf[..waiting]);
-            let left = waiting % 8;
-            to_start(buf, waiting - left, left);
-            waiting = left;
-        }
-    }
-    let last = batch(run, &buf[..waiting]);
-    last.tally
-}
-
-fn say_count(rt: &impl Print, count: u64, words: &[u8]) {
-    host::print_decimal(rt, count);
-    host::write_all(rt, words);
-}
-
-fn main(rt: HostRuntime) {
+    };
     let mut space = host::large_buffer();
-    let tally = all(&mut rt.stdin(), &mut space);
-    say_count(&rt, tally.requests, b" requests, ");
-    say_count(&rt, tally.granted, b" granted, ");
-    say_count(&rt, tally.sum as u64, b"\n");
+    host::hand_on(&mut rt.stdin(), &mut space, &mut run);
+    host::print_count(&rt, run.tally.requests, b" requests, ");
+    host::print_count(&rt, run.tally.granted, b" granted, ");
+    host::print_count(&rt, run.tally.sum as u64, b"\n");
 }

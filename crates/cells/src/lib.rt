@@ -2,13 +2,33 @@
 // any width and any number of words are in the crate marks.
 #![tactic(auto)]
 
-ghost use Rattle.std.specs.Prelude.{◌≡◌, ◌+◌, ◌/◌, ◌%◌, ◌^◌, Bool, get_or, replicate};
+ghost use Rattle.std.specs.Prelude.{◌≡◌, ◌+◌, ◌/◌, ◌%◌, ◌^◌, ◌<◌, Bool, get_or, replicate};
+ghost use Rattle.std.specs.Result.{OkIff};
 ghost use Rattle.marks.specs.Marks.{bit};
 ghost use Rattle.marks.specs.Words.{marked, with_mark, union, overlap, empty};
 
+use std::array;
+
 // A cell, 0 to 255: every byte is one.
-#[derive(Clone, Copy)]
+#[derive(Clone, Copy, Debug, PartialEq, Eq)]
 pub struct Cell(pub u8);
+
+// A number that is no cell: 256 or more.
+#[derive(Clone, Copy, Debug, PartialEq, Eq)]
+pub struct NoSuchCell;
+
+impl TryFrom<u32> for Cell {
+    type Error = NoSuchCell;
+
+    ghost try_from_gives = { λ number outcome. OkIff outcome (number < 256) (record { 0 = number }) };
+
+    fn try_from(number: u32) -> Result<Cell, NoSuchCell> {
+        match u8::try_from(number) {
+            Ok(byte) => Ok(Cell(byte)),
+            Err(_) => Err(NoSuchCell),
+        }
+    }
+}
 
 impl Cell {
     // Which word of a set has the cell's mark, 0 to 3.
@@ -19,6 +39,7 @@ impl Cell {
     }
 
     // The cell's mark in that word.
+    #[tactic(auto, using(marks::specs::MarkLaws::shl_one))]
     pub fn mark(self) -> u64
         ensures { result ≡ 2 ^ (self.0 % 64) }
     {
@@ -27,7 +48,7 @@ impl Cell {
 }
 
 // A set of cells: cell c is mark c % 64 of word c / 64.
-#[derive(Clone, Copy)]
+#[derive(Clone, Copy, Debug, PartialEq, Eq)]
 pub struct CellSet {
     pub words: [u64; 4],
 }
@@ -41,22 +62,20 @@ impl CellSet {
     }
 
     // Is the cell in the set?
+    #[tactic(auto, using(marks::specs::MarkLaws::test_mark), unfolding(marks::specs::Words::marked))]
     pub fn has(self, cell: Cell) -> bool
         ensures { result ≡ marked 64 self.words cell.0 }
     {
-        let words = self.words;
-        let place = cell.place();
-        words[place] & cell.mark() != 0
+        self.words[cell.place()] & cell.mark() != 0
     }
 
     // The set with the cell.
-    pub fn with(self, cell: Cell) -> CellSet
+    #[tactic(auto, unfolding(marks::specs::Words::with_mark))]
+    pub fn with(mut self, cell: Cell) -> CellSet
         ensures { result.words ≡ with_mark 64 self.words cell.0 }
     {
-        let mut words = self.words;
-        let place = cell.place();
-        words[place] = words[place] | cell.mark();
-        CellSet { words: words }
+        self.words[cell.place()] |= cell.mark();
+        self
     }
 
     // The cells of the one or the other.
@@ -66,7 +85,7 @@ impl CellSet {
         let a = self.words;
         let b = other.words;
         CellSet {
-            words: [a[0] | b[0], a[1] | b[1], a[2] | b[2], a[3] | b[3]],
+            words: array::from_fn(|i| a[i] | b[i]),
         }
     }
 
@@ -76,14 +95,14 @@ impl CellSet {
     {
         let a = self.words;
         let b = other.words;
-        (a[0] & b[0]) | (a[1] & b[1]) | (a[2] & b[2]) | (a[3] & b[3]) != 0
+        let both: [u64; 4] = array::from_fn(|i| a[i] & b[i]);
+        both != [0; 4]
     }
 
     // Is no cell in the set?
     pub fn is_empty(self) -> bool
         ensures { result ≡ empty self.words }
     {
-        let a = self.words;
-        a[0] | a[1] | a[2] | a[3] == 0
+        self.words == [0; 4]
     }
 }

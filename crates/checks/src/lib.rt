@@ -1,231 +1,152 @@
 // The checker of a proposed order. The log is read in `logs`.
 #![tactic(auto)]
 
-ghost use Rattle.std.specs.Prelude.{◌≡◌, false, cond, List, [], ℕ, ◌≤◌, ◌<◌, max, leb, length};
-ghost use Rattle.std.proofs.Math.Option.{none};
+ghost use Rattle.std.specs.Prelude.{◌≡◌, false, List, [], ℕ, ◌≤◌, ◌<◌, MatchOption, MatchResult};
+ghost use Rattle.std.proofs.Math.Option.{none, some};
 ghost use Rattle.history.specs.Events.{History, kept, kept_steps};
 ghost use Rattle.verdicts.specs.Verdicts.{first_bad, missing, first_backward, check};
-ghost use Rattle.tallies.specs.Jobs.{Jobs, Blank, Taken};
-ghost use Rattle.tallies.specs.Places.{Placed, found_at, stands_low};
-ghost use Rattle.checks.specs.Checks.{numbered, kept_as};
+ghost use Rattle.tallies.specs.Jobs.{Jobs, Blank};
+ghost use Rattle.tallies.specs.Places.{Placed, stands_low};
+ghost use Rattle.logs.specs.Logs.{Holds};
+ghost use Rattle.checks.specs.Checks.{refusal_code, refusal_place, numbered, kept_as};
+ghost use Rattle.checks.specs.declared.Refusal.TheVariants.{Log, Entry};
 
-use logs::Read;
+use codes::Told;
+use logs::{ABANDONED, Fault, Table};
 
-// What the checker answers: the count of kept jobs, or one of the refusals with its place.
-#[derive(Clone, Copy)]
-pub enum Checked {
-    Accepted(usize),
-    Length,
-    Form(usize),
-    Turn(usize),
-    TooMany(usize),
+// What the checker answers: the count of kept jobs, or a refusal with its place.
+pub type Checked = Result<usize, Refusal>;
+
+// The log is faulty; or an entry of the order is, of a job missing the order's length; or the record runs backward. A missing job is an entry past the last: document 01 gives both
+// code 15, and `check` tells them apart by the place alone.
+#[derive(Clone, Copy, PartialEq, Eq)]
+pub enum Refusal {
+    Log(Fault),
     Entry(usize),
     Backward(usize),
 }
 
-impl Checked {
-    // Document 01's code.
-    pub fn code(self) -> u32
-        ensures { result ≡ (numbered self).code }
-    {
+impl From<Fault> for Refusal {
+    ghost from_gives = { λ fault refusal. refusal ≡ Log fault };
+
+    fn from(f: Fault) -> Refusal {
+        Refusal::Log(f)
+    }
+}
+
+impl Told for Refusal {
+    ghost number = { refusal_code };
+
+    ghost place_of = { refusal_place };
+
+    fn code(self) -> u32 {
         match self {
-            Checked::Accepted(_) => 0,
-            Checked::Length => 11,
-            Checked::Form(_) => 12,
-            Checked::Turn(_) => 13,
-            Checked::TooMany(_) => 14,
-            Checked::Entry(_) => 15,
-            Checked::Backward(_) => 16,
+            Refusal::Log(fault) => fault.code(),
+            Refusal::Entry(_) => 15,
+            Refusal::Backward(_) => 16,
         }
     }
 
-    // The place that goes with it; of an accepted order, the count of kept jobs.
-    pub fn place(self) -> usize
-        ensures { result ≡ (numbered self).place }
-    {
+    fn place(self) -> usize {
         match self {
-            Checked::Accepted(n) => n,
-            Checked::Length => 0,
-            Checked::Form(p) => p,
-            Checked::Turn(p) => p,
-            Checked::TooMany(p) => p,
-            Checked::Entry(p) => p,
-            Checked::Backward(p) => p,
+            Refusal::Log(fault) => fault.place(),
+            Refusal::Entry(place) => place,
+            Refusal::Backward(place) => place,
         }
     }
 }
 
 // ---- the order
 
-// The places of the order's jobs, up to the first bad entry: its place, or the order's length where none is bad.
-fn place_order(
-    order: &[u32],
-    numbers: &[u32; 512],
-    states: &[u8; 512],
-    count: usize,
-    placed: &mut [usize; 512],
-) -> usize
-    requires { count ≤ 512 }
-    ensures { (result ≤ length order.now) × ((h : History) → Jobs h numbers.now states.now count → Blank placed.old
-        → (first_bad (kept h) [] 0 order.now ≡ found_at result (length order.now)) × (result ≡ length order.now → Placed h count order.now placed.new)) }
+// The places of the order's jobs, up to the first bad entry, which is answered.
+fn place_order(order: &[u32], table: &Table, placed: &mut [usize; 512]) -> Result<(), Refusal>
+    ensures { (h : History) → Jobs h table.now.numbers table.now.states table.now.count → Blank placed.old
+        → MatchResult result (λ _. (first_bad (kept h) [] 0 order.now ≡ none) × Placed h table.now.count order.now placed.new)
+        (λ refusal. (bad : ℕ) × (refusal ≡ Entry bad) × (first_bad (kept h) [] 0 order.now ≡ some bad)) }
 {
-    let stand = &states[..];
-    let places = &mut placed[..];
-    let mut i: usize = 0;
-    while i < order.len() {
-        let k = logs::find_job(numbers, count, order[i]);
-        if k == count {
-            return i;
+    for (i, job) in order.iter().enumerate() {
+        let k = table.find(*job).ok_or(Refusal::Entry(i))?;
+        if table.states[k] == ABANDONED || placed[k] != 0 {
+            return Err(Refusal::Entry(i));
         }
-        if stand[k] == 4 {
-            return i;
-        }
-        if places[k] != 0 {
-            return i;
-        }
-        places[k] = i + 1;
-        i += 1;
+        placed[k] = i + 1;
     }
-    i
+    Ok(())
 }
 
-// Is every kept job placed, and how many are they?
-#[derive(Clone, Copy)]
-pub enum Kept {
-    Missing,
-    All(usize),
-}
-
-// No more than a table has.
-fn within(count: usize) -> usize
-    ensures { (result ≤ 512) × (result ≡ cond (leb count 512) count 512) }
-{
-    if count <= 512 {
-        return count;
-    }
-    512
-}
-
-// The same of the first `count` jobs of a table, of all 512 where `count` is more.
-pub fn all_placed(states: &[u8; 512], placed: &[usize; 512], count: usize) -> Kept
+// How many of the first `count` jobs of a table are kept, of all 512 where `count` is more; none where a kept one has no place. It is told of two lists and any count, not of a `Table`, whose
+// count is at most 512: `kept_as` says it for every count. A place counts from 1, and 0 is that of a job that has none: `Placed` and `Blank` of tallies read the list so.
+pub fn all_placed(states: &[u8; 512], placed: &[usize; 512], count: usize) -> Option<usize>
     ensures { result ≡ kept_as states.now placed.now count }
 {
-    let stand = &states[..];
-    let places = &placed[..];
-    let jobs = within(count);
+    let jobs = count.min(512);
     let mut kept: usize = 0;
-    let mut i: usize = 0;
-    while i < jobs {
-        if stand[i] != 4 {
-            if places[i] == 0 {
-                return Kept::Missing;
+    for (state, place) in states[..jobs].iter().zip(&placed[..jobs]) {
+        if *state != ABANDONED {
+            if *place == 0 {
+                return None;
             }
             kept += 1;
         }
-        i += 1;
     }
-    Kept::All(kept)
+    Some(kept)
 }
 
 // ---- pairs that run backward
 
-// The higher of two places.
-fn higher(a: usize, b: usize) -> usize
-    ensures { result ≡ max a b }
-{
-    if a < b {
-        return b;
-    }
-    a
-}
-
-// Has a row that a step at this row looks at seen a place above that of its job?
+// Has a row that a step at this row looks at seen a place above that of its job? A row is a number: the list that it indexes has a place for each, and `looked` of tallies says it so.
+// The same rows are joined in `join_before` of jobsets: a walk over them would have a closure with a contract of its own.
+#[tactic(auto, unfolding(tallies::specs::Jobs::looked))]
 fn stands_low(seen: &[usize; 770], row: usize, place: usize) -> bool
     requires { row < 770 }
     ensures { result ≡ stands_low seen.now row place }
 {
-    let all = &seen[..];
-    if 768 <= row {
-        if row != 768 {
-            return false;
-        }
-        return place < all[769];
+    if row < 768 {
+        let cell = row % 256;
+        (256 <= row && place < seen[cell])
+            || place < seen[cell + 256]
+            || (row < 512 && place < seen[cell + 512])
+    } else {
+        row == 768 && place < seen[769]
     }
-    let cell = row % 256;
-    if 256 <= row {
-        if place < all[cell] {
-            return true;
-        }
-    }
-    if place < all[cell + 256] {
-        return true;
-    }
-    if row < 512 {
-        return place < all[cell + 512];
-    }
-    false
 }
 
-// The lowest record, of the first n, that is the later one of such a pair, or n.
-fn first_turned(told: &[u32; 4096], n: usize, states: &[u8; 512], placed: &[usize; 512]) -> usize
+// The lowest record, of the first n, that is the later one of such a pair. How many records a log has is not in its table, where every entry past them is 0.
+fn first_turned(table: &Table, n: usize, placed: &[usize; 512]) -> Option<usize>
     requires { n ≤ 4096 }
-    ensures { (h : History) (numbers order : List ℕ) (count : ℕ) → Taken h n numbers states.now told.now count → Placed h count order placed.now
-        → first_bad (kept h) [] 0 order ≡ none → missing (kept h) order ≡ false → first_backward order [] (kept_steps h) ≡ found_at result n }
+    ensures { (h : History) (order : List ℕ) → Holds h n table.now → Placed h table.now.count order placed.now
+        → first_bad (kept h) [] 0 order ≡ none → missing (kept h) order ≡ false
+        → MatchOption result (first_backward order [] (kept_steps h) ≡ none) (λ at. first_backward order [] (kept_steps h) ≡ some at) }
 {
-    let steps = &told[..];
-    let stand = &states[..];
-    let places = &placed[..];
     let mut seen: [usize; 770] = [0; 770];
-    let mut i: usize = 0;
-    while i < n {
-        let step = steps[i];
-        if step != 0 {
-            let job = ((step - 1) / 770 % 512) as usize;
-            let row = ((step - 1) % 770) as usize;
-            let place = places[job];
-            if stand[job] != 4 {
+    for (i, step) in table.told[..n].iter().enumerate() {
+        if *step != 0 {
+            // What is told is taken apart where it is used, as in `lists` and `exporter`: two lines, and the laws of tallies are said of these terms.
+            let job = ((*step - 1) / 770 % 512) as usize;
+            let row = ((*step - 1) % 770) as usize;
+            let place = placed[job];
+            if table.states[job] != ABANDONED {
                 if stands_low(&seen, row, place) {
-                    return i;
+                    return Some(i);
                 }
-                seen[row] = higher(place, seen[row]);
+                seen[row] = place.max(seen[row]);
             }
         }
-        i += 1;
     }
-    n
+    None
 }
 
 // The verdict on a log and an order.
 pub fn check_order(log: &[u8], order: &[u32]) -> Checked
     ensures { numbered result ≡ check log.now order.now }
 {
-    let mut numbers: [u32; 512] = [0; 512];
-    let mut states: [u8; 512] = [0; 512];
-    let mut told: [u32; 4096] = [0; 4096];
-    match logs::read_jobs(log, &mut numbers, &mut states, &mut told) {
-        Read::Fault(code, place) => match code {
-            11 => Checked::Length,
-            12 => Checked::Form(place),
-            13 => Checked::Turn(place),
-            _ => Checked::TooMany(place),
-        },
-        Read::Jobs(count) => {
-            let mut placed: [usize; 512] = [0; 512];
-            let bad = place_order(order, &numbers, &states, count, &mut placed);
-            if bad < order.len() {
-                return Checked::Entry(bad);
-            }
-            match all_placed(&states, &placed, count) {
-                Kept::Missing => Checked::Entry(order.len()),
-                Kept::All(kept) => {
-                    let n = log.len() / 8;
-                    let turned = first_turned(&told, n, &states, &placed);
-                    if turned < n {
-                        return Checked::Backward(turned);
-                    }
-                    Checked::Accepted(kept)
-                }
-            }
-        }
+    let mut table = Table::blank();
+    logs::read_jobs(log, &mut table)?;
+    let mut placed: [usize; 512] = [0; 512];
+    place_order(order, &table, &mut placed)?;
+    let kept = all_placed(&table.states, &placed, table.count).ok_or(Refusal::Entry(order.len()))?;
+    match first_turned(&table, log.len() / 8, &placed) {
+        Some(at) => Err(Refusal::Backward(at)),
+        None => Ok(kept),
     }
 }

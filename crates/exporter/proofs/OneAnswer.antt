@@ -7,46 +7,53 @@ use mathlib.Core.Bool.{cond}
 use mathlib.Core.List.{List}
 use Prim.Native.Nat.{ℕ}
 use lib.Dec.{eqb}
+use Rattle.std.specs.Prelude.{Result, Ok, Err}
 use contract.Lifetimes.{Lfts}
 use borrow.Fn.Kinds.{Dens, res_t, ended_of}
 use denote.Triple.Clauses.{AtExit}
 use Rattle.reader.proofs.OneAnswer.{One}
 use Rattle.blocks.specs.Blocks.{Filled}
+use Rattle.logs.specs.declared.Fault.TheVariants.{Length, Form, Turn, TooMany}
 use Rattle.exporter.specs.Exporter.{answered}
-use Rattle.exporter.specs.declared.Exported.{Exported}
-use Rattle.exporter.specs.declared.Exported.TheVariants.{Done, Length, Form, Turn, TooMany, Add, NoRoom}
-use Rattle.exporter.proofs.AnswerLaws.{answered_as}
-use Rattle.exporter.proofs.Exported.code.Kinds as code_kinds
-use Rattle.exporter.proofs.Exported.code.Reads as code_Reads
-use Rattle.exporter.proofs.Exported.place.Kinds as place_kinds
-use Rattle.exporter.proofs.Exported.place.Reads as place_reads
+use Rattle.exporter.specs.declared.Refusal.{Refusal}
+use Rattle.exporter.specs.declared.Refusal.TheVariants.{Log, Add, NoRoom}
+use Rattle.exporter.proofs.RefusalFromFault.from.Kinds as from_kinds
+use Rattle.exporter.proofs.RefusalFromFault.from.Reads as from_reads
+use Rattle.exporter.proofs.RefusalTold.code.Kinds as code_kinds
+use Rattle.exporter.proofs.RefusalTold.code.Reads as code_reads
+use Rattle.exporter.proofs.RefusalTold.place.Kinds as place_kinds
+use Rattle.exporter.proofs.RefusalTold.place.Reads as place_reads
 use Rattle.exporter.proofs.export_log.Kinds as log_kinds
 use Rattle.exporter.proofs.export_log.Reads as log_reads
 use Rattle.exporter.proofs.reedtangle_export.Kinds as export_kinds
 use Rattle.exporter.proofs.reedtangle_export.Reads as export_reads
 
-pub one_code : One 0 code_kinds.ps code_kinds.r code_Reads.Post
+pub one_from : One 0 from_kinds.ps from_kinds.r from_reads.Post
+one_from κs a x y s t p q = p ∙ sym q
+
+pub one_code : One 0 code_kinds.ps code_kinds.r code_reads.Post
 one_code κs a x y s t p q = p ∙ sym q
 
 pub one_place : One 0 place_kinds.ps place_kinds.r place_reads.Post
 one_place κs a x y s t p q = p ∙ sym q
 
 -- the result of an answer
-result_of : Filled → Exported
+result_of : Filled → Result ℕ Refusal
 result_of a =
     let c = a.code in
-    cond (eqb c 0) (Done a.place)
-    (cond (eqb c 11) Length (cond (eqb c 12) (Form a.place) (cond (eqb c 13) (Turn a.place) (cond (eqb c 14) (TooMany a.place) (cond (eqb c 27) (Add a.place) NoRoom)))))
+    let p = a.place in
+    cond (eqb c 0) (Ok p)
+    (cond (eqb c 11) (Err (Log Length)) (cond (eqb c 12) (Err (Log (Form p))) (cond (eqb c 13) (Err (Log (Turn p))) (cond (eqb c 14) (Err (Log (TooMany p))) (cond (eqb c 27) (Err (Add p)) (Err NoRoom))))))
 
-answer_back : (e : Exported) (lent : List ℕ) → result_of (answered e lent) ≡ e
+answer_back : (r : Result ℕ Refusal) (lent : List ℕ) → result_of (answered r lent) ≡ r
 unfolding result_of
-answer_back (Done n) lent = refl
-answer_back Length lent = refl
-answer_back (Form p) lent = refl
-answer_back (Turn p) lent = refl
-answer_back (TooMany p) lent = refl
-answer_back (Add p) lent = refl
-answer_back NoRoom lent = refl
+answer_back (Ok n) lent = refl
+answer_back (Err (Log Length)) lent = refl
+answer_back (Err (Log (Form p))) lent = refl
+answer_back (Err (Log (Turn p))) lent = refl
+answer_back (Err (Log (TooMany p))) lent = refl
+answer_back (Err (Add p)) lent = refl
+answer_back (Err NoRoom) lent = refl
 
 -- what it returns, and the lent bytes at exit, its second parameter
 pub one_export_log : (κs : Lfts 2) (a : Dens κs log_kinds.ps) (x y : (res_t log_kinds.r κs).Denot) (s t : AtExit (ended_of 2 log_kinds.ps log_kinds.r) κs)
@@ -56,7 +63,7 @@ pub one_export_log : (κs : Lfts 2) (a : Dens κs log_kinds.ps) (x y : (res_t lo
 one_export_log κs a x y s t p q =
     let same = p ∙ sym q in (
       sym (answer_back x s.1.0.now) ∙ ap result_of same ∙ answer_back y t.1.0.now,
-      (answered_as x s.1.0.now).bytes ∙ ap (λ (f : Filled). f.bytes) same ∙ sym (answered_as y t.1.0.now).bytes,
+      ap (λ (f : Filled). f.bytes) same,
     )
 
 -- and the lent number, its third

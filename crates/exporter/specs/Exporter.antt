@@ -1,22 +1,29 @@
 -- What the contracts of the exporter say: the code and place of each answer, and what the functions that it is made of put down.
 -- Assumes nothing.
-use Rattle.std.specs.Prelude.{Bool, ◌&&◌, cond, List, [], ◌∷◌, ◌++◌, ℕ, ◌+◌, ◌-◌, ◌/◌, ◌%◌, ◌≤◌, leb, ltb, eqb, get_or}
+use Rattle.std.specs.Prelude.{Bool, ◌&&◌, cond, List, [], ◌∷◌, ◌++◌, ℕ, ◌+◌, ◌-◌, ◌/◌, ◌%◌, ◌≤◌, leb, ltb, eqb, get_or, Result}
 use Rattle.text.specs.Puts.{Puts}
 use Rattle.history.specs.Events.{read, write, Event, opens, steps, ends}
-use Rattle.blocks.specs.Blocks.{Filled, refused}
+use Rattle.blocks.specs.Blocks.{Filled}
+use Rattle.codes.specs.Codes.{code_in, place_in}
+use Rattle.logs.specs.Faults.{code_of, place_of}
 use Rattle.notation.specs.Notation.{symbol}
-use Rattle.exporter.specs.declared.Exported.{Exported}
-use Rattle.exporter.specs.declared.Exported.TheVariants.{Done, Length, Form, Turn, TooMany, Add, NoRoom}
+use Rattle.exporter.specs.declared.Refusal.{Refusal}
+use Rattle.exporter.specs.declared.Refusal.TheVariants.{Log, Add, NoRoom}
 
--- document 02's code and place of each answer, with what then stands in the lent bytes
-abbrev pub answered : Exported → List ℕ → Filled
-answered (Done n) lent = record { code = 0; place = n; bytes = lent }
-answered Length lent = refused 11 0 lent
-answered (Form p) lent = refused 12 p lent
-answered (Turn p) lent = refused 13 p lent
-answered (TooMany p) lent = refused 14 p lent
-answered (Add p) lent = refused 27 p lent
-answered NoRoom lent = refused 24 0 lent
+-- document 02's code and place of each refusal
+abbrev pub refusal_code : Refusal → ℕ
+refusal_code (Log f) = code_of f
+refusal_code (Add p) = 27
+refusal_code NoRoom = 24
+
+abbrev pub refusal_place : Refusal → ℕ
+refusal_place (Log f) = place_of f
+refusal_place (Add p) = p
+refusal_place NoRoom = 0
+
+-- and of each answer, with what then stands in the lent bytes: of a text code 0 and the count of its bytes
+abbrev pub answered : Result ℕ Refusal → List ℕ → Filled
+answered r lent = record { code = code_in refusal_code r; place = place_in refusal_place r; bytes = lent }
 
 -- the bytes are put at a place, and are at most so many
 pub record PutsMost (at most : ℕ) (bytes out out' : List ℕ) (r : ℕ) : Type 0 where

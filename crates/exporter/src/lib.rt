@@ -1,63 +1,64 @@
 // The export of a log as a text in the notation of Casanova and Bernstein 1981, with the abandoned jobs left out. A log that holds an add is refused: the notation has none.
 #![tactic(auto)]
 
-ghost use Rattle.std.specs.Prelude.{◌≡◌, List, [], ◌∷◌, ◌++◌, ℕ, ◌+◌, ◌*◌, ◌≤◌, ◌<◌, length, take};
+ghost use Rattle.std.specs.Prelude.{◌≡◌, List, [], ◌∷◌, ◌++◌, ℕ, ◌+◌, ◌*◌, ◌≤◌, ◌<◌, length, position};
 ghost use Rattle.text.specs.Decimal.{decimal};
 ghost use Rattle.text.specs.Puts.{Puts};
 ghost use Rattle.history.specs.Events.{History};
 ghost use Rattle.blocks.specs.Blocks.{filled};
-ghost use Rattle.tallies.specs.Jobs.{Taken};
+ghost use Rattle.logs.specs.Logs.{Holds};
 ghost use Rattle.notation.specs.Notation.{symbol, text_of, without_abandoned, NoAdd};
 ghost use Rattle.notation.specs.Answers.{before_adds, exported, export};
-ghost use Rattle.exporter.specs.Exporter.{answered, add_told, event_at, gap, symbol_told, PutsMost};
+ghost use Rattle.exporter.specs.Exporter.{refusal_code, refusal_place, answered, add_told, event_at, gap, symbol_told, PutsMost};
+ghost use Rattle.exporter.specs.declared.Refusal.TheVariants.{Log};
 
-use logs::Read;
+use codes::Told;
+use logs::{ABANDONED, Fault, Table};
 
-// What the exporter answers: the count of bytes of the text, or one of the refusals with its place.
-#[derive(Clone, Copy)]
-pub enum Exported {
-    Done(usize),
-    Length,
-    Form(usize),
-    Turn(usize),
-    TooMany(usize),
+// What the exporter answers: the count of bytes of the text, or a refusal with its place.
+pub type Exported = Result<usize, Refusal>;
+
+// The log is faulty; or it holds an add, the first at the place told; or there is no room for the text.
+#[derive(Clone, Copy, PartialEq, Eq)]
+pub enum Refusal {
+    Log(Fault),
     Add(usize),
     NoRoom,
 }
 
-impl Exported {
-    // Document 02's code.
-    pub fn code(self) -> u32
-        ensures { result ≡ (answered self []).code }
-    {
+impl From<Fault> for Refusal {
+    ghost from_gives = { λ fault refusal. refusal ≡ Log fault };
+
+    fn from(f: Fault) -> Refusal {
+        Refusal::Log(f)
+    }
+}
+
+impl Told for Refusal {
+    ghost number = { refusal_code };
+
+    ghost place_of = { refusal_place };
+
+    fn code(self) -> u32 {
         match self {
-            Exported::Done(_) => 0,
-            Exported::Length => 11,
-            Exported::Form(_) => 12,
-            Exported::Turn(_) => 13,
-            Exported::TooMany(_) => 14,
-            Exported::Add(_) => 27,
-            Exported::NoRoom => 24,
+            Refusal::Log(fault) => fault.code(),
+            Refusal::Add(_) => 27,
+            Refusal::NoRoom => 24,
         }
     }
 
-    // The place that goes with it; of a text, the count of its bytes.
-    pub fn place(self) -> usize
-        ensures { result ≡ (answered self []).place }
-    {
+    fn place(self) -> usize {
         match self {
-            Exported::Done(n) => n,
-            Exported::Length => 0,
-            Exported::Form(p) => p,
-            Exported::Turn(p) => p,
-            Exported::TooMany(p) => p,
-            Exported::Add(p) => p,
-            Exported::NoRoom => 0,
+            Refusal::Log(fault) => fault.place(),
+            Refusal::Add(place) => place,
+            Refusal::NoRoom => 0,
         }
     }
 }
 
-// ---- one symbol. Each function answers the place past what it put
+// ---- one symbol
+
+// Each function is lent the bytes and a place in them, and answers the place past what it put: `put_number` of `text` is called so, and its theory (`Puts`) says it so.
 
 // A letter and the job.
 fn put_job(letter: u8, job: u32, out: &mut [u8], at: usize) -> usize
@@ -89,20 +90,17 @@ fn put_step(letter: u8, job: u32, cell: u32, out: &mut [u8], at: usize) -> usize
 }
 
 // The symbol of a row: the reads of cells 0 to 255, then the writes of those, then, past the rows of adds, which never come here, the opens (768) and the ends (769).
+// A row is a number, as the table of a log tells it; it is taken apart here alone.
 fn put_symbol(row: u32, job: u32, out: &mut [u8], at: usize) -> usize
     requires { (at + 16 ≤ length out.old) × (row < 770) }
     ensures { PutsMost at 16 (symbol (event_at row job)) out.old out.new result }
 {
-    if row < 256 {
-        return put_step(b'R', job, row, out, at);
+    match row {
+        0..=255 => put_step(b'R', job, row, out, at),
+        256..=511 => put_step(b'W', job, row - 256, out, at),
+        768 => put_job(b'B', job, out, at),
+        _ => put_job(b'E', job, out, at),
     }
-    if row < 512 {
-        return put_step(b'W', job, row - 256, out, at);
-    }
-    if row == 768 {
-        return put_job(b'B', job, out, at);
-    }
-    put_job(b'E', job, out, at)
 }
 
 // A blank, but not before the first symbol.
@@ -117,22 +115,20 @@ fn put_blank(out: &mut [u8], at: usize) -> usize
     at + 1
 }
 
-// What a record comes to: nothing where it is an abandon or its job was abandoned, and else a symbol.
-fn put_told(step: u32, numbers: &[u32; 512], states: &[u8; 512], out: &mut [u8], at: usize) -> usize
+// What a record comes to: nothing where it is an abandon or its job was abandoned, and else a symbol. The number told is taken apart here, as `symbol_told` says it.
+fn put_told(step: u32, table: &Table, out: &mut [u8], at: usize) -> usize
     requires { at + 17 ≤ length out.old }
-    ensures { PutsMost at 17 (symbol_told numbers.now states.now step at) out.old out.new result }
+    ensures { PutsMost at 17 (symbol_told table.now.numbers table.now.states step at) out.old out.new result }
 {
-    let jobs = &numbers[..];
-    let stand = &states[..];
     if step == 0 {
         return at;
     }
     let job = ((step - 1) / 770 % 512) as usize;
-    if stand[job] == 4 {
+    if table.states[job] == ABANDONED {
         return at;
     }
     let from = put_blank(out, at);
-    put_symbol((step - 1) % 770, jobs[job], out, from)
+    put_symbol((step - 1) % 770, table.numbers[job], out, from)
 }
 
 // ---- adds
@@ -142,102 +138,60 @@ fn put_told(step: u32, numbers: &[u32; 512], states: &[u8; 512], out: &mut [u8],
 fn is_add(step: u32) -> bool
     ensures { result ≡ add_told step }
 {
-    let row = step % 770;
-    if row < 513 {
-        return false;
-    }
-    row <= 768
+    (513..=768).contains(&(step % 770))
 }
 
-// The place of the first add among n records; n where there is none.
-fn first_add(told: &[u32; 4096], n: usize) -> usize
-    requires { n ≤ 4096 }
-    ensures { (h : History) (numbers states : List ℕ) (count : ℕ) → Taken h n numbers states told.now count → result ≡ before_adds h }
+// The place of the first add among the records told.
+fn first_add(told: &[u32]) -> Option<usize>
+    ensures { result ≡ position add_told told.now }
 {
-    let steps = &told[..];
-    let mut i: usize = 0;
-    while i < n {
-        if is_add(steps[i]) {
-            return i;
-        }
-        i += 1;
-    }
-    i
+    told.iter().position(|step| is_add(*step))
 }
 
 // ---- the text
 
-// The symbols of the first n records, none of which is an add.
-fn put_all(
-    told: &[u32; 4096],
-    n: usize,
-    numbers: &[u32; 512],
-    states: &[u8; 512],
-    out: &mut [u8],
-) -> usize
+// The symbols of the first n records, none of which is an add. How many records a log has is not in its table, where every entry past them is 0.
+fn put_all(table: &Table, n: usize, out: &mut [u8]) -> usize
     requires { (n ≤ 4096) × (n * 17 ≤ length out.old) }
-    ensures { (result ≤ length out.new) × ((h : History) (count : ℕ) → Taken h n numbers.now states.now told.now count
-        → NoAdd h → Puts 0 (text_of (without_abandoned h)) out.old out.new result) }
+    ensures { (result ≤ length out.new) × ((h : History) → Holds h n table.now → NoAdd h → Puts 0 (text_of (without_abandoned h)) out.old out.new result) }
 {
-    let steps = &told[..];
     let mut at: usize = 0;
-    let mut i: usize = 0;
-    while i < n {
-        at = put_told(steps[i], numbers, states, out, at);
-        i += 1;
+    for step in &table.told[..n] {
+        at = put_told(*step, table, out, at);
     }
     at
 }
 
-// The first n bytes, where there is room for them.
-fn copy_out(said: &[u8], n: usize, out: &mut [u8]) -> Exported
-    requires { n ≤ length said.now }
-    ensures { answered result out.new ≡ filled (take n said.now) out.old }
+// The text, where there is room for it. `put_log` of importer has the like: two lines, and the refusal is of another type.
+fn copy_out(said: &[u8], out: &mut [u8]) -> Exported
+    ensures { answered result out.new ≡ filled said.now out.old }
 {
-    if out.len() < n {
-        return Exported::NoRoom;
+    if out.len() < said.len() {
+        return Err(Refusal::NoRoom);
     }
-    text::put_text(&said[..n], out, 0);
-    Exported::Done(n)
+    Ok(text::put_text(said, out, 0))
 }
 
-// The text of a log that is read, where it holds no add. A symbol has at most 16 bytes, and a blank before it.
-fn export_read(
-    told: &[u32; 4096],
-    n: usize,
-    numbers: &[u32; 512],
-    states: &[u8; 512],
-    out: &mut [u8],
-) -> Exported
+// The text of a log of n records that is read, where it holds no add: a table does not say how many its log has. A symbol has at most 16 bytes, and a blank before it.
+fn export_read(table: &Table, n: usize, out: &mut [u8]) -> Exported
     requires { n ≤ 4096 }
-    ensures { (h : History) (count : ℕ) → Taken h n numbers.now states.now told.now count
-        → answered result out.new ≡ exported h (before_adds h) out.old }
+    ensures { (h : History) → Holds h n table.now → answered result out.new ≡ exported h (before_adds h) out.old }
 {
-    let first = first_add(told, n);
-    if first < n {
-        return Exported::Add(first);
+    if let Some(first) = first_add(&table.told[..n]) {
+        return Err(Refusal::Add(first));
     }
     let mut said: [u8; 69632] = [0; 69632];
-    let size = put_all(told, n, numbers, states, &mut said);
-    copy_out(&said, size, out)
+    let size = put_all(table, n, &mut said);
+    copy_out(&said[..size], out)
 }
 
 // The text of a log, in the lent bytes. On a refusal they stay.
 pub fn export_log(log: &[u8], out: &mut [u8]) -> Exported
     ensures { answered result out.new ≡ export log.now out.old }
 {
-    let mut numbers: [u32; 512] = [0; 512];
-    let mut states: [u8; 512] = [0; 512];
-    let mut told: [u32; 4096] = [0; 4096];
-    match logs::read_jobs(log, &mut numbers, &mut states, &mut told) {
-        Read::Fault(code, place) => match code {
-            11 => Exported::Length,
-            12 => Exported::Form(place),
-            13 => Exported::Turn(place),
-            _ => Exported::TooMany(place),
-        },
-        Read::Jobs(_) => export_read(&told, log.len() / 8, &numbers, &states, out),
-    }
+    let mut table = Table::blank();
+    logs::read_jobs(log, &mut table)?;
+    export_read(&table, log.len() / 8, out)
 }
 
 // ---- as hosts call it; the crate `exporter_c` exports it to C and Rust

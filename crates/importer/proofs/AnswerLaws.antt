@@ -1,13 +1,12 @@
--- What import answers, way by way, and what an answer is numbered, whatever stands in the lent bytes.
+-- What import answers, way by way.
 -- Assumes nothing.
-use mathlib.Core.Path.{◌≡◌, sym, ap, ap₂, subst, ◌∙◌}
+use mathlib.Core.Path.{◌≡◌, sym, ap, ◌∙◌}
 use mathlib.Core.Logic.{inr}
-use mathlib.Core.Bool.{Bool, true, false, cond}
-use mathlib.Core.List.{List, [], ◌∷◌, ◌++◌}
+use mathlib.Core.Bool.{Bool, cond}
+use mathlib.Core.List.{List, [], ◌++◌}
 use Prim.Native.Nat.{ℕ, ◌+◌, ◌%◌, ◌≤◌, ◌<◌}
 use native.Mathlib.Nat.{zero-add}
 use native.Mathlib.Omega.{arith}
-use borrow.Author.Tests.{eq-eqb, ne_eqb}
 use lib.ListN.{length, drop}
 use Rattle.graph.specs.Decide.{or_test, not_test, eq_test, lt_test, test_true}
 use Rattle.history.specs.Events.{History}
@@ -18,31 +17,8 @@ use Rattle.text.specs.Lays.{Lays}
 use Rattle.text.specs.LaysLaws.{lays_room}
 use Rattle.blocks.specs.Blocks.{refused}
 use Rattle.blocks.proofs.RunLaws.{fills, fills_not}
-use Rattle.notation.specs.Parse.{Stand, whole_at, event_at, Parsed, wrong, says, parse_end, parse}
+use Rattle.notation.specs.Parse.{Parsed, wrong, says, parse}
 use Rattle.notation.specs.Answers.{imported, import_of, import}
-use Rattle.importer.specs.Importer.{answered, Given}
-use Rattle.importer.specs.declared.Imported.{Imported}
-use Rattle.importer.specs.declared.Parsed.{Parsed as Read}
-
--- ---- where a text ends
-
-module _ (h : History) (s : Stand) (p : ℕ) where
-  pub end_empty : s.phase ≡ 0 → parse_end h s p ≡ says []
-  unfolding parse_end
-  end_empty e = ap (λ (b : Bool). cond b (says []) (cond (whole_at s) (says (h ++ event_at s ∷ [])) (wrong p))) (eq-eqb s.phase 0 e)
-
-  module _ (f : s.phase ≡ 0 → ⊥) where
-    pub end_whole : whole_at s ≡ true → parse_end h s p ≡ says (h ++ event_at s ∷ [])
-    unfolding parse_end
-    end_whole w = ap₂ (λ (a b : Bool). cond a (says []) (cond b (says (h ++ event_at s ∷ [])) (wrong p))) (ne_eqb s.phase 0 f) w
-
-    pub end_short : whole_at s ≡ false → parse_end h s p ≡ wrong p
-    unfolding parse_end
-    end_short w = ap₂ (λ (a b : Bool). cond a (says []) (cond b (says (h ++ event_at s ∷ [])) (wrong p))) (ne_eqb s.phase 0 f) w
-
--- what was found, by its variant
-pub given_as : (a : Parsed) (log : List ℕ) {r v : Read} → r ≡ v → Given r a log → Given v a log
-given_as a log e g = subst (λ (x : Read). Given x a log) e g
 
 -- ---- what import answers
 
@@ -85,15 +61,3 @@ module _ (log lent : List ℕ) where
 
         there : out ≡ log ++ drop (length log) lent
         there = (rw (lays_room 0 log lent room) at l.content) ∙ ap (λ (j : ℕ). log ++ drop j lent) (zero-add (length log))
-
--- ---- numbers
-
--- an answer, from its code and its place
-pub answer_whole : (r : Imported) {lent : List ℕ} {c p : ℕ} → c ≡ (answered r []).code → p ≡ (answered r []).place → record { code = c; place = p; bytes = lent } ≡ answered r lent
-answer_whole (Imported.Done n) {lent} e f = ap₂ (λ (c p : ℕ). refused c p lent) e f
-answer_whole (Imported.Text n) {lent} e f = ap₂ (λ (c p : ℕ). refused c p lent) e f
-answer_whole Imported.Length {lent} e f = ap₂ (λ (c p : ℕ). refused c p lent) e f
-answer_whole (Imported.Form n) {lent} e f = ap₂ (λ (c p : ℕ). refused c p lent) e f
-answer_whole (Imported.Turn n) {lent} e f = ap₂ (λ (c p : ℕ). refused c p lent) e f
-answer_whole (Imported.TooMany n) {lent} e f = ap₂ (λ (c p : ℕ). refused c p lent) e f
-answer_whole Imported.NoRoom {lent} e f = ap₂ (λ (c p : ℕ). refused c p lent) e f

@@ -7,52 +7,50 @@ use mathlib.Core.Bool.{cond}
 use mathlib.Core.List.{List}
 use Prim.Native.Nat.{ℕ}
 use lib.Dec.{eqb}
+use Rattle.std.specs.Prelude.{Result, Ok, Err}
 use contract.Lifetimes.{Lfts}
 use borrow.Fn.Kinds.{Dens, res_t, ended_of}
 use denote.Triple.Clauses.{AtExit}
 use Rattle.reader.proofs.OneAnswer.{One}
 use Rattle.blocks.specs.Blocks.{Filled}
+use Rattle.logs.specs.declared.Fault.TheVariants.{Length, Form, Turn, TooMany}
 use Rattle.importer.specs.Importer.{answered}
-use Rattle.importer.specs.declared.Imported.{Imported}
-use Rattle.importer.proofs.Imported.code.Kinds as code_kinds
-use Rattle.importer.proofs.Imported.code.Reads as code_Reads
-use Rattle.importer.proofs.Imported.place.Kinds as place_kinds
-use Rattle.importer.proofs.Imported.place.Reads as place_reads
+use Rattle.importer.specs.declared.Refusal.{Refusal}
+use Rattle.importer.specs.declared.Refusal.TheVariants.{Text, Log, NoRoom}
+use Rattle.importer.proofs.RefusalFromFault.from.Kinds as from_kinds
+use Rattle.importer.proofs.RefusalFromFault.from.Reads as from_reads
+use Rattle.importer.proofs.RefusalTold.code.Kinds as code_kinds
+use Rattle.importer.proofs.RefusalTold.code.Reads as code_reads
+use Rattle.importer.proofs.RefusalTold.place.Kinds as place_kinds
+use Rattle.importer.proofs.RefusalTold.place.Reads as place_reads
 use Rattle.importer.proofs.import_log.Kinds as import_kinds
 use Rattle.importer.proofs.import_log.Reads as import_reads
 use Rattle.importer.proofs.reedtangle_import.Kinds as export_kinds
 use Rattle.importer.proofs.reedtangle_import.Reads as export_reads
 
 -- the result of an answer
-result_of : Filled → Imported
+result_of : Filled → Result ℕ Refusal
 result_of a =
     let c = a.code in
-    cond (eqb c 0) (Imported.Done a.place)
-    (cond (eqb c 26) (Imported.Text a.place)
-    (cond (eqb c 11) Imported.Length
-    (cond (eqb c 12) (Imported.Form a.place) (cond (eqb c 13) (Imported.Turn a.place) (cond (eqb c 14) (Imported.TooMany a.place) Imported.NoRoom)))))
+    let p = a.place in
+    cond (eqb c 0) (Ok p)
+    (cond (eqb c 26) (Err (Text p))
+    (cond (eqb c 11) (Err (Log Length)) (cond (eqb c 12) (Err (Log (Form p))) (cond (eqb c 13) (Err (Log (Turn p))) (cond (eqb c 14) (Err (Log (TooMany p))) (Err NoRoom))))))
 
-answer_back : (r : Imported) (lent : List ℕ) → result_of (answered r lent) ≡ r
+answer_back : (r : Result ℕ Refusal) (lent : List ℕ) → result_of (answered r lent) ≡ r
 unfolding result_of
-answer_back (Imported.Done n) lent = refl
-answer_back (Imported.Text p) lent = refl
-answer_back Imported.Length lent = refl
-answer_back (Imported.Form p) lent = refl
-answer_back (Imported.Turn p) lent = refl
-answer_back (Imported.TooMany p) lent = refl
-answer_back Imported.NoRoom lent = refl
+answer_back (Ok n) lent = refl
+answer_back (Err (Text p)) lent = refl
+answer_back (Err (Log Length)) lent = refl
+answer_back (Err (Log (Form p))) lent = refl
+answer_back (Err (Log (Turn p))) lent = refl
+answer_back (Err (Log (TooMany p))) lent = refl
+answer_back (Err NoRoom) lent = refl
 
--- the lent bytes of an answer
-lent_in : (r : Imported) (lent : List ℕ) → lent ≡ (answered r lent).bytes
-lent_in (Imported.Done n) lent = refl
-lent_in (Imported.Text p) lent = refl
-lent_in Imported.Length lent = refl
-lent_in (Imported.Form p) lent = refl
-lent_in (Imported.Turn p) lent = refl
-lent_in (Imported.TooMany p) lent = refl
-lent_in Imported.NoRoom lent = refl
+pub one_from : One 0 from_kinds.ps from_kinds.r from_reads.Post
+one_from κs a x y s t p q = p ∙ sym q
 
-pub one_code : One 0 code_kinds.ps code_kinds.r code_Reads.Post
+pub one_code : One 0 code_kinds.ps code_kinds.r code_reads.Post
 one_code κs a x y s t p q = p ∙ sym q
 
 pub one_place : One 0 place_kinds.ps place_kinds.r place_reads.Post
@@ -66,7 +64,7 @@ pub one_import_log : (κs : Lfts 2) (a : Dens κs import_kinds.ps) (x y : (res_t
 one_import_log κs a x y s t p q =
     let same = p ∙ sym q in (
       sym (answer_back x s.1.0.now) ∙ ap result_of same ∙ answer_back y t.1.0.now,
-      lent_in x s.1.0.now ∙ ap (λ (f : Filled). f.bytes) same ∙ sym (lent_in y t.1.0.now),
+      ap (λ (f : Filled). f.bytes) same,
     )
 
 -- and the place, the third

@@ -1,362 +1,283 @@
 // Logs in the notation of Casanova and Bernstein 1981: a text is read byte by byte into a log, which is judged as every log is and then put down.
 #![tactic(auto)]
 
-ghost use Rattle.std.specs.Prelude.{◌≡◌, true, [], ◌++◌, ◌+◌, ◌*◌, ◌≤◌, ◌<◌, length, take, drop};
+ghost use Rattle.std.specs.Prelude.{◌≡◌, ◌≢◌, true, false, [], ◌∷◌, ◌++◌, ◌+◌, ◌-◌, ◌*◌, ◌<◌, ◌≤◌, length, SomeIff, IfSome, MatchOption};
 ghost use Rattle.history.specs.Events.{History};
-ghost use Rattle.verdicts.specs.Logs.{read_log, fields};
-ghost use Rattle.notation.specs.Parse.{off, kind_of, with_cell, is_digit, goes_on, letter_next, first_next, job_next, first_cell_next, cell_next, closed_next, next, whole_at, parse_end, parse};
+ghost use Rattle.verdicts.specs.Logs.{read_log, fields, record_of};
+ghost use Rattle.notation.specs.Parse.{kind_of, is_digit, goes_on, job_next, cell_next, next, whole_at, event_at, parse};
 ghost use Rattle.notation.specs.Answers.{imported, import};
-ghost use Rattle.importer.specs.Importer.{answered, as_read, after_symbol, Fit, Holds, Given};
+ghost use Rattle.importer.specs.Importer.{refusal_code, refusal_place, answered, access_number, kind_number, letter_number, as_read, as_next, Inside, event_of, Holds, Given};
+ghost use Rattle.importer.specs.declared.Refusal.TheVariants.{Log};
 
-use logs::Read;
+use codes::Told;
+use logs::{Fault, Table};
 
-// What import answers: the count of bytes of the log, or one of the refusals with its place.
-#[derive(Clone, Copy)]
-pub enum Imported {
-    Done(usize),
+// What import answers: the count of bytes of the log, or a refusal with its place.
+pub type Imported = Result<usize, Refusal>;
+
+// The text is not of the form; or the log that it says is faulty; or there is no room for it.
+#[derive(Clone, Copy, PartialEq, Eq)]
+pub enum Refusal {
     Text(usize),
-    Length,
-    Form(usize),
-    Turn(usize),
-    TooMany(usize),
+    Log(Fault),
     NoRoom,
 }
 
-impl Imported {
-    // Document 02's code.
-    pub fn code(self) -> u32
-        ensures { result ≡ (answered self []).code }
-    {
+impl From<Fault> for Refusal {
+    ghost from_gives = { λ fault refusal. refusal ≡ Log fault };
+
+    fn from(f: Fault) -> Refusal {
+        Refusal::Log(f)
+    }
+}
+
+impl Told for Refusal {
+    ghost number = { refusal_code };
+
+    ghost place_of = { refusal_place };
+
+    fn code(self) -> u32 {
         match self {
-            Imported::Done(_) => 0,
-            Imported::Text(_) => 26,
-            Imported::Length => 11,
-            Imported::Form(_) => 12,
-            Imported::Turn(_) => 13,
-            Imported::TooMany(_) => 14,
-            Imported::NoRoom => 24,
+            Refusal::Text(_) => 26,
+            Refusal::Log(fault) => fault.code(),
+            Refusal::NoRoom => 24,
         }
     }
 
-    // The place that goes with it; of a log, the count of its bytes.
-    pub fn place(self) -> usize
-        ensures { result ≡ (answered self []).place }
-    {
+    fn place(self) -> usize {
         match self {
-            Imported::Done(n) => n,
-            Imported::Text(p) => p,
-            Imported::Length => 0,
-            Imported::Form(p) => p,
-            Imported::Turn(p) => p,
-            Imported::TooMany(p) => p,
-            Imported::NoRoom => 0,
+            Refusal::Text(place) => place,
+            Refusal::Log(fault) => fault.place(),
+            Refusal::NoRoom => 0,
         }
     }
 }
 
 // ---- one byte, as in Parse of the crate notation
 
-// Where a reading stands: its phase, 0 to 7, and what is read of the symbol so far.
+// What a symbol with a cell does.
 #[derive(Clone, Copy)]
-struct Stand {
-    phase: u32,
-    kind: u8,
-    job: u32,
-    cell: u32,
+enum Access {
+    Read,
+    Write,
 }
 
-// No text of the form goes on so.
-fn off() -> Stand
-    ensures { as_read result ≡ off }
-{
-    Stand {
-        phase: 7,
-        kind: 0,
-        job: 0,
-        cell: 0,
+impl Access {
+    // The kind of its record. Kinds of records are numbers here and in `record`: these alone put them down.
+    fn number(self) -> u8
+        ensures { result ≡ access_number self }
+    {
+        match self {
+            Access::Read => 2,
+            Access::Write => 3,
+        }
     }
 }
 
-// The kind that a letter says, 0 for another byte.
-fn kind_of(byte: u8) -> u8
-    ensures { result ≡ kind_of byte }
-{
-    match byte {
-        66 => 1,
-        82 => 2,
-        87 => 3,
-        69 => 4,
-        _ => 0,
+// The kinds of symbols.
+#[derive(Clone, Copy)]
+enum Kind {
+    Begin,
+    End,
+    Step(Access),
+}
+
+impl Kind {
+    // The kind that a letter says.
+    #[tactic(auto, unfolding(notation::specs::Parse::kind_of))]
+    fn of_letter(byte: u8) -> Option<Kind>
+        ensures { letter_number result ≡ kind_of byte }
+    {
+        match byte {
+            b'B' => Some(Kind::Begin),
+            b'R' => Some(Kind::Step(Access::Read)),
+            b'W' => Some(Kind::Step(Access::Write)),
+            b'E' => Some(Kind::End),
+            _ => None,
+        }
     }
 }
 
-// Has a symbol of this kind a cell?
-fn with_cell(kind: u8) -> bool
-    ensures { result ≡ with_cell kind }
-{
-    if kind == 2 {
-        return true;
-    }
-    kind == 3
+// Where a reading stands, with what is read of the symbol so far.
+#[derive(Clone, Copy)]
+enum Stand {
+    // no byte yet
+    Start,
+    // after a blank
+    Blank,
+    // after a letter
+    Letter(Kind),
+    // in the digits of a job
+    Job(Kind, u32),
+    // after `[`
+    Bracket(Access, u32),
+    // in the digits of a cell
+    Cell(Access, u32, u16),
+    // after `]`
+    Closed(Access, u32, u16),
 }
 
-// Is it a digit?
-fn is_digit(byte: u8) -> bool
-    ensures { result ≡ is_digit byte }
-{
-    if byte < 48 {
-        return false;
-    }
-    byte <= 57
+// A symbol that is read whole: the job, and the cell where it has one.
+#[derive(Clone, Copy)]
+enum Symbol {
+    Begin(u32),
+    End(u32),
+    Step(Access, u32, u16),
 }
 
-// May the digit follow those that say n? Not after a 0, and the number stays below the limit.
-fn goes_on(n: u32, byte: u8, limit: u64) -> bool
-    requires { 48 ≤ byte }
-    ensures { result ≡ goes_on n byte limit }
+// The digit that a byte says. Numbers are read by hand: but for 0 itself the form has none that begins with 0, and the `parse` of std takes those.
+#[tactic(auto, unfolding(notation::specs::Parse::is_digit))]
+fn digit(byte: u8) -> Option<u8>
+    ensures { SomeIff result (is_digit byte ≡ true) (byte - 48) }
+{
+    if byte.is_ascii_digit() {
+        Some(byte - b'0')
+    } else {
+        None
+    }
+}
+
+// The number that the digits say with one more. None may follow a 0, and the number stays below the limit.
+#[tactic(auto, unfolding(notation::specs::Parse::goes_on))]
+fn goes_on(n: u32, byte: u8, limit: u64) -> Option<u32>
+    requires { (48 ≤ byte) × (byte ≤ 57) × (limit ≤ 4294967296) }
+    ensures longer { SomeIff result (goes_on n byte limit ≡ true) (n * 10 + (byte - 48)) }
+    ensures below { IfSome result (λ number. number < limit) }
 {
     if n == 0 {
-        return false;
+        return None;
     }
-    (n as u64 * 10 + (byte - 48) as u64) < limit
-}
-
-// A letter.
-fn letter_next(byte: u8) -> Stand
-    ensures { as_read result ≡ letter_next byte }
-{
-    let kind = kind_of(byte);
-    if kind == 0 {
-        return off();
-    }
-    Stand {
-        phase: 2,
-        kind: kind,
-        job: 0,
-        cell: 0,
+    let number = u64::from(n) * 10 + u64::from(byte - b'0');
+    if number < limit {
+        Some(number as u32)
+    } else {
+        None
     }
 }
 
-// The first digit of a job.
-fn first_next(kind: u8, byte: u8) -> Stand
-    ensures { as_read result ≡ first_next kind byte }
+// After a digit of a job: a digit or `[`.
+#[tactic(auto, unfolding(notation::specs::Parse::is_digit, notation::specs::Parse::with_cell))]
+fn job_next(kind: Kind, job: u32, byte: u8) -> Option<Stand>
+    requires { byte ≢ 32 }
+    ensures stand { as_next result ≡ job_next (kind_number kind) job byte }
+    ensures inside { IfSome result Inside }
 {
-    if is_digit(byte) {
-        return Stand {
-            phase: 3,
-            kind: kind,
-            job: (byte - 48) as u32,
-            cell: 0,
-        };
+    if byte.is_ascii_digit() {
+        return Some(Stand::Job(kind, goes_on(job, byte, 4294967296)?));
     }
-    off()
-}
-
-// After a whole symbol, a blank.
-fn closed_next(byte: u8) -> Stand
-    ensures { as_read result ≡ closed_next byte }
-{
-    if byte == 32 {
-        return Stand {
-            phase: 1,
-            kind: 0,
-            job: 0,
-            cell: 0,
-        };
+    match kind {
+        Kind::Step(access) if byte == b'[' => Some(Stand::Bracket(access, job)),
+        _ => None,
     }
-    off()
-}
-
-// After a digit of a job: a digit, `[` or a blank.
-fn job_next(kind: u8, job: u32, byte: u8) -> Stand
-    ensures { as_read result ≡ job_next kind job byte }
-{
-    if is_digit(byte) {
-        if goes_on(job, byte, 4294967296) {
-            return Stand {
-                phase: 3,
-                kind: kind,
-                job: job * 10 + (byte - 48) as u32,
-                cell: 0,
-            };
-        }
-        return off();
-    }
-    if with_cell(kind) {
-        if byte == 91 {
-            return Stand {
-                phase: 4,
-                kind: kind,
-                job: job,
-                cell: 0,
-            };
-        }
-        return off();
-    }
-    closed_next(byte)
-}
-
-// The first digit of a cell.
-fn first_cell_next(kind: u8, job: u32, byte: u8) -> Stand
-    ensures { as_read result ≡ first_cell_next kind job byte }
-{
-    if is_digit(byte) {
-        return Stand {
-            phase: 5,
-            kind: kind,
-            job: job,
-            cell: (byte - 48) as u32,
-        };
-    }
-    off()
 }
 
 // After a digit of a cell: a digit or `]`.
-fn cell_next(kind: u8, job: u32, cell: u32, byte: u8) -> Stand
-    ensures { as_read result ≡ cell_next kind job cell byte }
+#[tactic(auto, unfolding(notation::specs::Parse::is_digit))]
+fn cell_next(access: Access, job: u32, cell: u16, byte: u8) -> Option<Stand>
+    ensures stand { as_next result ≡ cell_next (access_number access) job cell byte }
+    ensures inside { IfSome result Inside }
 {
-    if is_digit(byte) {
-        if goes_on(cell, byte, 65536) {
-            return Stand {
-                phase: 5,
-                kind: kind,
-                job: job,
-                cell: cell * 10 + (byte - 48) as u32,
-            };
-        }
-        return off();
+    if byte.is_ascii_digit() {
+        let longer = goes_on(u32::from(cell), byte, 65536)?;
+        return Some(Stand::Cell(access, job, longer as u16));
     }
-    if byte == 93 {
-        return Stand {
-            phase: 6,
-            kind: kind,
-            job: job,
-            cell: cell,
-        };
+    if byte == b']' {
+        Some(Stand::Closed(access, job, cell))
+    } else {
+        None
     }
-    off()
 }
 
-// The next stand, phase by phase.
-fn next(s: Stand, byte: u8) -> Stand
-    ensures { as_read result ≡ next (as_read s) byte }
-{
-    let phase = s.phase;
-    if phase < 2 {
-        return letter_next(byte);
-    }
-    if phase == 2 {
-        return first_next(s.kind, byte);
-    }
-    if phase == 3 {
-        return job_next(s.kind, s.job, byte);
-    }
-    if phase == 4 {
-        return first_cell_next(s.kind, s.job, byte);
-    }
-    if phase == 5 {
-        return cell_next(s.kind, s.job, s.cell, byte);
-    }
-    if phase == 6 {
-        return closed_next(byte);
-    }
-    off()
-}
-
-// Is a whole symbol read there?
-fn whole_at(s: Stand) -> bool
-    ensures { result ≡ whole_at (as_read s) }
-{
-    let phase = s.phase;
-    if phase == 3 {
-        let kind = s.kind;
-        if with_cell(kind) {
-            return false;
+impl Stand {
+    // The next stand for a byte that is no blank; none where no text of the form goes on so.
+    #[tactic(auto, unfolding(notation::specs::Parse::next))]
+    fn next(self, byte: u8) -> Option<Stand>
+        requires { byte ≢ 32 }
+        ensures stand { as_next result ≡ next (as_read self) byte }
+        ensures inside { IfSome result Inside }
+    {
+        match self {
+            Stand::Start | Stand::Blank => Some(Stand::Letter(Kind::of_letter(byte)?)),
+            Stand::Letter(kind) => Some(Stand::Job(kind, u32::from(digit(byte)?))),
+            Stand::Job(kind, job) => job_next(kind, job, byte),
+            Stand::Bracket(access, job) => Some(Stand::Cell(access, job, u16::from(digit(byte)?))),
+            Stand::Cell(access, job, cell) => cell_next(access, job, cell, byte),
+            Stand::Closed(_, _, _) => None,
         }
-        return true;
     }
-    phase == 6
+
+    // The symbol that is read whole there. A blank may come after it, or the text may end.
+    #[tactic(auto, unfolding(notation::specs::Parse::whole_at, notation::specs::Parse::with_cell, notation::specs::Parse::event_at))]
+    fn whole_at(self) -> Option<Symbol>
+        ensures { MatchOption result (whole_at (as_read self) ≡ false) (λ symbol. (whole_at (as_read self) ≡ true) × (event_at (as_read self) ≡ event_of symbol)) }
+    {
+        match self {
+            Stand::Job(Kind::Begin, job) => Some(Symbol::Begin(job)),
+            Stand::Job(Kind::End, job) => Some(Symbol::End(job)),
+            Stand::Closed(access, job, cell) => Some(Symbol::Step(access, job, cell)),
+            _ => None,
+        }
+    }
 }
 
 // ---- a whole text
 
-// The record at a place of a log: the kind, 0, the cell in two bytes and the job in four, low byte first.
-fn put_record(log: &mut [u8], place: usize, kind: u8, cell: u32, job: u32)
-    requires { (length log.old ≡ 32768) × (place < 4096) }
-    ensures { log.new ≡ take (place * 8) log.old ++ fields kind cell job ++ drop (place * 8 + 8) log.old }
+// A record: the kind, 0, the cell in two bytes and the job in four, low byte first, as `fields` of verdicts says it.
+fn fields(kind: u8, cell: u16, job: u32) -> [u8; 8]
+    ensures { result ≡ fields kind cell job }
 {
-    let at = place * 8;
-    log[at] = kind;
-    log[at + 1] = 0;
-    log[at + 2] = (cell % 256) as u8;
-    log[at + 3] = (cell / 256 % 256) as u8;
-    log[at + 4] = (job % 256) as u8;
-    log[at + 5] = (job / 256 % 256) as u8;
-    log[at + 6] = (job / 256 / 256 % 256) as u8;
-    log[at + 7] = (job / 256 / 256 / 256 % 256) as u8;
+    let [c0, c1] = cell.to_le_bytes();
+    let [j0, j1, j2, j3] = job.to_le_bytes();
+    [kind, 0, c0, c1, j0, j1, j2, j3]
 }
 
-// The symbols so far, with the one that the next phase completes: its record is put down while the log has place for it, and it is counted in any case.
-fn grow(log: &mut [u8], count: usize, s: Stand, phase: u32) -> usize
-    requires { (length log.old ≡ 32768) × (count < 9223372036854775808) }
-    ensures { (result ≤ count + 1) × ((h : History) → Fit (as_read s) → (phase ≡ 1 → whole_at (as_read s) ≡ true) → Holds h count log.old
-        → Holds (after_symbol h (as_read s) phase) result log.new) }
+impl Symbol {
+    // Its record.
+    fn record(self) -> [u8; 8]
+        ensures { result ≡ record_of (event_of self) }
+    {
+        match self {
+            Symbol::Begin(job) => fields(1, 0, job),
+            Symbol::End(job) => fields(4, 0, job),
+            Symbol::Step(access, job, cell) => fields(access.number(), cell, job),
+        }
+    }
+}
+
+// One symbol more: its record is put down while the log has place for it. The count goes on past that, so that it is told of a log that is too long.
+fn grow(log: &mut [u8], count: usize, symbol: Symbol)
+    requires { length log.old ≡ 32768 }
+    ensures { (h : History) → Holds h count log.old → Holds (h ++ event_of symbol ∷ []) (count + 1) log.new }
 {
-    if phase != 1 {
-        return count;
+    if count < 4096 {
+        let at = count * 8;
+        log[at..at + 8].copy_from_slice(&symbol.record());
     }
-    if 4096 <= count {
-        return count + 1;
-    }
-    put_record(log, count, s.kind, s.cell, s.job);
-    count + 1
 }
 
-// What a text is read as: not of the form, with the place; or how many symbols it has.
-#[derive(Clone, Copy)]
-enum Parsed {
-    Wrong(usize),
-    Symbols(usize),
-}
-
-// Where the text ends.
-fn finish(log: &mut [u8], count: usize, s: Stand, end: usize) -> Parsed
-    requires { (length log.old ≡ 32768) × (count < 9223372036854775808) }
-    ensures { (h : History) → Fit (as_read s) → Holds h count log.old → Given result (parse_end h (as_read s) end) log.new }
-{
-    let phase = s.phase;
-    if phase == 0 {
-        return Parsed::Symbols(0);
-    }
-    if whole_at(s) {
-        return Parsed::Symbols(grow(log, count, s, 1));
-    }
-    Parsed::Wrong(end)
-}
-
-// A whole text, with the records of its symbols in the log, as many as it has place for.
-fn parse(text: &[u8], log: &mut [u8]) -> Parsed
+// A whole text: how many symbols it has, or the place where it is not of the form. Their records are put in the log, as many as it has place for.
+fn parse(text: &[u8], log: &mut [u8]) -> Result<usize, Refusal>
     requires { length log.old ≡ 32768 }
     ensures { Given result (parse text.now) log.new }
 {
-    let mut s = Stand {
-        phase: 0,
-        kind: 0,
-        job: 0,
-        cell: 0,
-    };
+    let mut s = Stand::Start;
     let mut count: usize = 0;
-    let mut i: usize = 0;
-    while i < text.len() {
-        let n = next(s, text[i]);
-        if n.phase == 7 {
-            return Parsed::Wrong(i);
+    for (i, byte) in text.iter().enumerate() {
+        if *byte == b' ' {
+            let symbol = s.whole_at().ok_or(Refusal::Text(i))?;
+            grow(log, count, symbol);
+            count += 1;
+            s = Stand::Blank;
+        } else {
+            s = s.next(*byte).ok_or(Refusal::Text(i))?;
         }
-        count = grow(log, count, s, n.phase);
-        s = n;
-        i += 1;
     }
-    finish(log, count, s, i)
+    if let Stand::Start = s {
+        return Ok(0);
+    }
+    let last = s.whole_at().ok_or(Refusal::Text(text.len()))?;
+    grow(log, count, last);
+    Ok(count + 1)
 }
 
 // ---- import
@@ -365,23 +286,12 @@ fn parse(text: &[u8], log: &mut [u8]) -> Parsed
 fn put_log(log: &[u8], out: &mut [u8]) -> Imported
     ensures { answered result out.new ≡ imported (read_log log.now) log.now out.old }
 {
-    let mut numbers: [u32; 512] = [0; 512];
-    let mut states: [u8; 512] = [0; 512];
-    let mut told: [u32; 4096] = [0; 4096];
-    match logs::read_jobs(log, &mut numbers, &mut states, &mut told) {
-        Read::Fault(code, place) => match code {
-            11 => Imported::Length,
-            12 => Imported::Form(place),
-            13 => Imported::Turn(place),
-            _ => Imported::TooMany(place),
-        },
-        Read::Jobs(_) => {
-            if out.len() < log.len() {
-                return Imported::NoRoom;
-            }
-            Imported::Done(text::put_text(log, out, 0))
-        }
+    logs::read_jobs(log, &mut Table::blank())?;
+    // As `copy_out` of exporter: two lines, and the refusal is of another type.
+    if out.len() < log.len() {
+        return Err(Refusal::NoRoom);
     }
+    Ok(text::put_text(log, out, 0))
 }
 
 // The log that a text says, in the lent bytes. On a refusal they stay.
@@ -389,16 +299,12 @@ pub fn import_log(text: &[u8], out: &mut [u8]) -> Imported
     ensures { answered result out.new ≡ import text.now out.old }
 {
     let mut log: [u8; 32768] = [0; 32768];
-    match parse(text, &mut log[..]) {
-        Parsed::Wrong(place) => Imported::Text(place),
-        Parsed::Symbols(count) => {
-            if 4096 < count {
-                return Imported::Length;
-            }
-            let size = count * 8;
-            put_log(&log[..size], out)
-        }
+    let count = parse(text, &mut log[..])?;
+    if 4096 < count {
+        return Err(Refusal::Log(Fault::Length));
     }
+    let size = count * 8;
+    put_log(&log[..size], out)
 }
 
 // ---- as hosts call it; the crate `importer_c` exports it to C and Rust

@@ -1,7 +1,12 @@
--- What the contracts on sets of jobs say, beside `LowestMark` and `Gained` of tallies.
+-- What the contracts on sets of jobs say, beside `Gained` of tallies.
 -- Assumes nothing.
-use Rattle.std.specs.Prelude.{◌≡◌, List, ℕ, ◌^◌, ◌≤◌, ◌<◌, length, get_or}
-use Rattle.tallies.specs.Marks.{Gained}
+use Rattle.std.specs.Prelude.{◌≡◌, true, false, List, Option, None, Some, ℕ, ◌^◌, ◌≤◌, ◌<◌, length, get_or}
+use Rattle.tallies.specs.Marks.{mark, Gained}
+
+-- the lowest mark of the 512, and none only where no mark is put
+abbrev pub LowestOf : List ℕ → Option ℕ → Type 0
+LowestOf words None = (i : ℕ) → i < 512 → mark words i ≡ false
+LowestOf words (Some r) = (r < 512) × (mark words r ≡ true) × ((i : ℕ) → i < r → mark words i ≡ false)
 
 -- so many words, each of 64 marks
 pub record Table (n : ℕ) (words : List ℕ) : Type 0 where

@@ -4,8 +4,9 @@
 ghost use Rattle.std.specs.Prelude.{◌≡◌, ◌+◌, ◌*◌};
 ghost use Rattle.blocks.specs.Blocks.{write, read};
 
-pub use blockreader::{ReadBack, read_blocks};
-pub use blockwriter::{Written, write_blocks};
+pub use blockreader::{Unread, read_blocks};
+pub use blockwriter::{Unwritten, write_blocks};
+use codes::in_one;
 
 // ---- as hosts call them; the crate `ledger_c` exports each to C and Rust
 
@@ -14,8 +15,7 @@ pub fn reedtangle_write_blocks(log: &[u8], out: &mut [u8]) -> u64
     ensures { (result ≡ (write log.now out.old).code * 4294967296 + (write log.now out.old).place)
         × (out.new ≡ (write log.now out.old).bytes) }
 {
-    let w = write_blocks(log, out);
-    (w.code() as u64) * 4294967296 + (w.place() as u64)
+    in_one(write_blocks(log, out))
 }
 
 // `read_blocks`: code times 2^32 plus place.
@@ -23,6 +23,5 @@ pub fn reedtangle_read_blocks(blocks: &[u8], out: &mut [u8]) -> u64
     ensures { (result ≡ (read blocks.now out.old).code * 4294967296 + (read blocks.now out.old).place)
         × (out.new ≡ (read blocks.now out.old).bytes) }
 {
-    let r = read_blocks(blocks, out);
-    (r.code() as u64) * 4294967296 + (r.place() as u64)
+    in_one(read_blocks(blocks, out))
 }

@@ -1,3 +1,4 @@
 pub mod Lines
 pub mod Writes
+pub mod Runs
 pub mod LineLaws

@@ -1,15 +1,14 @@
 -- Lines of an input that comes in parts, and what the trial program prints, by the rule of held.
 -- Assumes nothing.
-use Rattle.std.specs.Prelude.{◌≡◌, refl, List, [], ◌∷◌, ◌++◌, Bool, ℕ, suc, ◌+◌, ◌*◌, ◌/◌, ◌%◌, length}
-use Rattle.std.proofs.Common.{sym, ap, ◌∙◌, append_assoc, add-zero, arith}
+use Rattle.std.specs.Prelude.{◌≡◌, refl, List, [], ◌∷◌, ◌++◌, Bool, true, false, cond, ℕ, suc, ◌+◌, ◌*◌, ◌/◌, ◌%◌, ◌≤◌, ◌<◌, length, drop, Option, Some, None}
+use Rattle.std.proofs.Common.{sym, ap, ◌∙◌, append_assoc, add-zero, arith, length-append}
 use Rattle.history.specs.Formats.{records}
 use Rattle.history_laws.specs.RecordLaws.{records_length}
 use Rattle.history.specs.Replies.{Request, Reply}
 use Rattle.held.specs.Held.{Held, fresh_held, answer_to, after, answers, after_all}
 use Rattle.held_laws.specs.HeldExact.{held_exact}
 use Rattle.lines.specs.Lines.{line, lines, lines_of, header_line, tail_line, trial_output}
-use Rattle.lines.specs.Writes.{Starts, Writes}
-use Rattle.lines.specs.declared.Written.{Written}
+use Rattle.lines.specs.Writes.{most_place, roomy_place, Starts, Leaves, Writes}
 
 pub records_append : (a b : List ℕ) → length a % 8 ≡ 0 → records (a ++ b) ≡ records a ++ records b
 records_append (k ∷ z ∷ c ∷ d ∷ i ∷ j ∷ m ∷ n ∷ l) b h =
@@ -56,29 +55,30 @@ pub trial_lines : (input : List ℕ) → trial_output input ≡ header_line ++ l
 unfolding trial_output lines_of
 trial_lines input = ap (λ (l : List Reply). header_line ++ lines 0 l ++ tail_line (length input % 8)) (sym (held_exact 1 (records input)))
 
+-- ---- a run of lines
+
+-- where a run answers, there is room, it answers what it comes to, and the bytes written are within the output
+pub leaves_some : {W : Type 0} {room : Bool} {w v : W} {bytes out out' : List ℕ} {h g h' : Held} → Leaves room w bytes out h g (Some v) h' out'
+    → (room ≡ true) × (v ≡ w) × (length bytes ≤ length out')
+leaves_some {W} {room} {w} {v} {bytes} {out} {out'} a = go room a.answered a.content
+  where
+    go : (b : Bool) → Some v ≡ cond b (Some w) None → out' ≡ cond b (bytes ++ drop (length bytes) out) out → (b ≡ true) × (v ≡ w) × (length bytes ≤ length out')
+    go true e c = (refl, cc, omega (arith, ap length c ∙ length-append bytes (drop (length bytes) out)))
+    go false e c = cc
+
+-- and so the place is below the most, and the count of bytes within the output
+pub writes_some : (p : ℕ) (input : List ℕ) {h g : Held} {out out' : List ℕ} {n : ℕ} → Writes p h input out (Some n) g out' → (p < most_place) × (n ≤ length out')
+writes_some p input {out = out} a =
+    let s = leaves_some a in
+    let e = s.1 in
+    let l = s.2 in
+    (roomy_place p input out s.0, omega (arith, e, l))
+
 -- ---- a contract leaves one result
 
 pub starts_one : {room : Bool} {bytes out x y : List ℕ} {r s : ℕ} → Starts room bytes out x r → Starts room bytes out y s → (x ≡ y) × (r ≡ s)
 starts_one a b = (a.content ∙ sym b.content, a.count ∙ sym b.count)
 
-written_one : (r s : Written) → r.next ≡ s.next → r.free ≡ s.free → r.bytes ≡ s.bytes → r.room ≡ s.room → r ≡ s
-written_one r s a b c d =
-    ap (λ (x : ℕ). record { next = x; free = r.free; bytes = r.bytes; room = r.room }) a
-    ∙ ap (λ (x : ℕ). record { next = s.next; free = x; bytes = r.bytes; room = r.room }) b
-    ∙ ap (λ (x : ℕ). record { next = s.next; free = s.free; bytes = x; room = r.room }) c
-    ∙ ap (λ (x : Bool). record { next = s.next; free = s.free; bytes = s.bytes; room = x }) d
-
-pub writes_one : {p : ℕ} {h : Held} {input out : List ℕ} {r s : Written} {numbers leads sets ports x numbers' leads' sets' ports' y : List ℕ}
-    → Writes p h input out r numbers leads sets ports x → Writes p h input out s numbers' leads' sets' ports' y
-    → (r ≡ s) × (numbers ≡ numbers') × (leads ≡ leads') × (sets ≡ sets') × (ports ≡ ports') × (x ≡ y)
-writes_one {r = r} {s = s} a b =
-    let e = a.left ∙ sym b.left in
-    let one = starts_one a.put b.put in
-    let f = a.room ∙ sym b.room in (
-      written_one r s (ap (λ (h : Held). h.next) e) (ap (λ (h : Held). h.free) e) one.1 f,
-      ap (λ (h : Held). h.numbers) e,
-      ap (λ (h : Held). h.leads) e,
-      ap (λ (h : Held). h.sets) e,
-      ap (λ (h : Held). h.ports) e,
-      one.0,
-    )
+pub leaves_one : {W : Type 0} {room : Bool} {w : W} {bytes out x y : List ℕ} {h g h₁ h₂ : Held} {r s : Option W}
+    → Leaves room w bytes out h g r h₁ x → Leaves room w bytes out h g s h₂ y → (r ≡ s) × (h₁ ≡ h₂) × (x ≡ y)
+leaves_one a b = (a.answered ∙ sym b.answered, a.left ∙ sym b.left, a.content ∙ sym b.content)

@@ -1,12 +1,10 @@
 -- What the contracts say: bytes put at the start of a lent list, and what a run of lines leaves.
 -- Assumes nothing.
-use Rattle.std.specs.Prelude.{◌≡◌, refl, Bool, true, false, ◌&&◌, cond, List, ◌++◌, ℕ, ◌+◌, ◌/◌, ◌≤◌, ◌<◌, ltb, leb, length, take, drop}
+use Rattle.std.specs.Prelude.{◌≡◌, refl, Bool, true, false, ◌&&◌, cond, List, ◌++◌, ℕ, ◌+◌, ◌/◌, ◌≤◌, ◌<◌, ltb, leb, length, take, drop, Option, Some, None}
 use Rattle.std.proofs.Common.{ltb-true}
 use Rattle.history.specs.Formats.{records}
 use Rattle.held.specs.Held.{Held, after_all}
-use Rattle.slots.specs.Lent.{lent}
 use Rattle.lines.specs.Lines.{lines_of}
-use Rattle.lines.specs.declared.Written.{Written}
 
 -- where there is room, the bytes stand at the start and the rest is as it was; and where there is none, nothing moves. That
 -- the count is within the list follows; it is stated for those who take that part of it
@@ -36,7 +34,13 @@ pub roomy_place : (p : ℕ) (input out : List ℕ) → roomy p input out ≡ tru
 unfolding roomy
 roomy_place p input out t = ltb-true p most_place (and_true_left (ltb p most_place) (leb (length input / 8) (length out / 44)) t)
 
-pub record Writes (p : ℕ) (h : Held) (input out : List ℕ) (r : Written) (numbers leads sets ports out' : List ℕ) : Type 0 where
-  pub room : r.room ≡ roomy p input out
-  pub put : Starts (roomy p input out) (lines_of p h input) out out' r.bytes
-  pub left : lent r.next r.free numbers leads sets ports ≡ cond (roomy p input out) (after_all h (records input)) h
+-- what a run leaves that comes to w: where there is room it answers w, the bytes stand at the start of the output and the rest is as it was, and of the state h is left g; and where there is none
+-- it answers nothing, and nothing moves
+pub record Leaves {W : Type 0} (room : Bool) (w : W) (bytes out : List ℕ) (h g : Held) (r : Option W) (h' : Held) (out' : List ℕ) : Type 0 where
+  pub answered : r ≡ cond room (Some w) None
+  pub content : out' ≡ cond room (bytes ++ drop (length bytes) out) out
+  pub left : h' ≡ cond room g h
+
+-- the first profile's run of the whole records of an input, which comes to the count of bytes written
+abbrev pub Writes : ℕ → Held → List ℕ → List ℕ → Option ℕ → Held → List ℕ → Type 0
+Writes p h input out r h' out' = let bytes = lines_of p h input in Leaves (roomy p input out) (length bytes) bytes out h (after_all h (records input)) r h' out'

@@ -1,75 +1,33 @@
 // The lister: the lowest-first order of the jobs of a log in a file.
 #![tactic(auto)]
 
-ghost use Rattle.std.specs.Prelude.{◌≤◌, length};
+ghost use Rattle.verdicts.specs.Verdicts.{list_order};
 
-use files::Loaded;
-use std::rt::{Env, Files};
+use listing::Listing;
+use orders::Listed;
 
-// The answer in words.
-fn put_answer(code: u32, place: usize, order: &[u32], out: &mut [u8]) -> usize
-    ensures { result ≤ length out.new }
-{
-    if code == 0 {
-        let at = plain::put_accepted(place as u64, out, 0);
-        return plain::put_numbers(order, place, out, at);
+// The kept jobs, the lowest number first where there is a choice.
+struct Order;
+
+impl Listing for Order {
+    const USAGE: &'static [u8] = b"usage: lister LOG\n\
+    Lists the kept jobs of a log in an order that keeps every conflicting pair and puts each job before those opened after its end,\n\
+    the lowest number first where there is a choice.\n\
+    LOG: records of 8 bytes, at most 4096, and at most 512 opens. A record is the kind (1 open, 2 read, 3 write, 4 end, 5 abandon, 7 add),\n\
+    a byte 0, the cell (2 bytes, 0 to 255, and 0 where no cell is meant) and the job (4 bytes; of an open, the number issued).\n\
+    Numbers stand low byte first. A job is kept unless the log abandons it.\n\
+    The answer is 'accepted N' and N job numbers, one a line, or 'refused CODE PLACE' and a line that says what is wrong.\n\
+    Records count from 0.\n";
+
+    const NO_ROOM: &'static [u8] = b" kept jobs, for which there is no room\n";
+
+    ghost listed = { list_order };
+
+    fn list(log: &[u8], order: &mut [u32]) -> Listed {
+        orders::list_order(log, order)
     }
-    let at = plain::put_refused(code, place as u64, out, 0);
-    match code {
-        17 => text::put_text(
-            b"no order keeps every conflicting pair and puts each job before those opened after its end\n",
-            out,
-            at,
-        ),
-        18 => plain::put_counted(
-            b"the log has ",
-            place as u64,
-            b" kept jobs, for which there is no room\n",
-            out,
-            at,
-        ),
-        _ => plain::put_fault(code, place as u64, out, at),
-    }
-}
-
-// The log is read in full, or up to the byte past what a log can have.
-fn run(
-    rt: &(impl Files + Env + Print),
-    err: &impl Print,
-    log: &mut [u8],
-    order: &mut [u32],
-    out: &mut [u8],
-) {
-    let Loaded::Bytes(n) = files::load(rt, err, 1, log) else {
-        return;
-    };
-    let answer = orders::list_order(&log[..n], order);
-    let end = put_answer(answer.code(), answer.place(), order, out);
-    files::show(rt, err, &out[..end]);
-}
-
-fn usage(rt: &impl Print, err: &impl Print) {
-    files::show(
-        rt,
-        err,
-        b"usage: lister LOG\n\
-        Lists the kept jobs of a log in an order that keeps every conflicting pair and puts each job before those opened after its end,\n\
-        the lowest number first where there is a choice.\n\
-        LOG: records of 8 bytes, at most 4096, and at most 512 opens. A record is the kind (1 open, 2 read, 3 write, 4 end, 5 abandon, 7 add),\n\
-        a byte 0, the cell (2 bytes, 0 to 255, and 0 where no cell is meant) and the job (4 bytes; of an open, the number issued).\n\
-        Numbers stand low byte first. A job is kept unless the log abandons it.\n\
-        The answer is 'accepted N' and N job numbers, one a line, or 'refused CODE PLACE' and a line that says what is wrong.\n\
-        Records count from 0.\n",
-    );
 }
 
 fn main(rt: HostRuntime) {
-    if host::arg_count(&rt) != 2 {
-        usage(&rt, &rt.stderr());
-        return;
-    }
-    let mut log = [0u8; 32769];
-    let mut order = [0u32; 512];
-    let mut out = [0u8; 8192];
-    run(&rt, &rt.stderr(), &mut log, &mut order, &mut out);
+    listing::run::<Order>(&rt, &rt.stderr());
 }

@@ -1,4 +1,5 @@
 pub mod ListedLaws
+pub mod KeptLaws
 pub mod LeadLaws
 pub mod OutsideLaws
 pub mod PickLaws

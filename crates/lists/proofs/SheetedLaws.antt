@@ -1,6 +1,6 @@
 -- The sheet's answer by its ways out.
 -- Assumes nothing.
-use mathlib.Core.Path.{◌≡◌, sym, ap, ap₂, subst, ◌∙◌}
+use mathlib.Core.Path.{◌≡◌, refl, sym, ap, ap₂, ◌∙◌}
 use mathlib.Core.Bool.{Bool, cond, not, ◌&&◌}
 use mathlib.Core.Option.{Option, none, some}
 use mathlib.Core.List.Memᴰ
@@ -12,9 +12,9 @@ use lib.Dec.{ltb}
 use lib.ListN.{length, get_or, take, drop}
 use lib.Seq.{get_or-take}
 use Rattle.graph.specs.Decide.{test_true, not_test, eq_test}
-use Rattle.graph.specs.Lists.{◌∈◌, only, only_length}
+use Rattle.graph.specs.Lists.{◌∈◌, only}
 use Rattle.graph.proofs.ListingLaws.{lowest_forward}
-use Rattle.history.specs.Events.{History, has, opened, abandoned, kept}
+use Rattle.history.specs.Events.{History, opened, kept}
 use Rattle.history.specs.Orders.{order_of}
 use Rattle.history_laws.specs.OrderLaws.{order_lowest, order_accepted}
 use Rattle.history.specs.Turns.{Turns}
@@ -28,15 +28,16 @@ use Rattle.tallies.specs.Marks.{mark}
 use Rattle.tallies.specs.Places.{Lists}
 use Rattle.tallies.specs.TableLaws.{at_member, member_at, kept_status}
 use Rattle.checks.specs.Checks.{Keeps}
-use Rattle.checks.specs.declared.Kept.{Kept}
-use Rattle.checks.specs.declared.Kept.TheVariants.{Missing, All}
+use Rattle.std.specs.Prelude.{None, Some, Ok, Err}
+use Rattle.lists.specs.declared.Refusal.TheVariants.{NoOrder}
 use Rattle.lists.specs.Sheets.{Outside, Numbered, Picked, Whole}
 
-pub sheet_faulty : (bytes lent : List ℕ) {c p : ℕ} → read_log bytes ≡ faulty c p → list_sheet bytes lent ≡ refused c p lent
+pub sheet_faulty : (bytes lent : List ℕ) {c p : ℕ} → read_log bytes ≡ faulty c p → refused c p lent ≡ list_sheet bytes lent
 unfolding list_sheet
-sheet_faulty bytes lent e = ap (λ (g : Reading). sheet_in g lent) e
+sheet_faulty bytes lent e = sym (ap (λ (g : Reading). sheet_in g lent) e)
 
-module _ (bytes lent : List ℕ) (h : History) (read : read_log bytes ≡ events h) where
+-- r is the count of jobs at rest
+module _ (bytes lent : List ℕ) (h : History) (read : read_log bytes ≡ events h) {r : ℕ} (many : r ≡ length (resting h)) where
   abbrev on_room : Bool → Listed
   on_room b = cond b (refused 18 (length (resting h)) lent) (written (of_whole (order_of h) (sheet_of h)) lent)
 
@@ -44,20 +45,20 @@ module _ (bytes lent : List ℕ) (h : History) (read : read_log bytes ≡ events
   unfolding list_sheet sheeted
   by_reading = ap (λ (g : Reading). sheet_in g lent) read
 
-  pub sheet_short : length lent < length (resting h) → list_sheet bytes lent ≡ refused 18 (length (resting h)) lent
-  sheet_short q = by_reading ∙ ap on_room (lt-ltb (length lent) (length (resting h)) q)
+  pub sheet_short : length lent < r → refused 18 r lent ≡ list_sheet bytes lent
+  sheet_short q = ap (λ (n : ℕ). refused 18 n lent) many ∙ sym (by_reading ∙ ap on_room (lt-ltb (length lent) (length (resting h)) (omega (arith, many, q))))
 
-  module _ (room : length (resting h) ≤ length lent) where
+  module _ (room : r ≤ length lent) where
     with_room : list_sheet bytes lent ≡ written (of_whole (order_of h) (sheet_of h)) lent
-    with_room = by_reading ∙ ap on_room (le-ltb (length lent) (length (resting h)) room)
+    with_room = by_reading ∙ ap on_room (le-ltb (length lent) (length (resting h)) (omega (arith, many, room)))
 
-    pub sheet_none : order_of h ≡ none → list_sheet bytes lent ≡ refused 17 0 lent
-    sheet_none e = with_room ∙ ap (λ (o : Option (List ℕ)). written (of_whole o (sheet_of h)) lent) e
+    pub sheet_none : order_of h ≡ none → refused 17 0 lent ≡ list_sheet bytes lent
+    sheet_none e = sym (with_room ∙ ap (λ (o : Option (List ℕ)). written (of_whole o (sheet_of h)) lent) e)
 
-    -- the order stands in `order`, and the jobs at rest of it in `sheet`; r is their count, and `now` what stands in the list
-    pub sheet_done : Turns h → (order sheet : List ℕ) {now : List ℕ} {r : ℕ} → order_of h ≡ some (take (length (kept h)) order) → r ≡ length (resting h)
+    -- the order stands in `order`, and the jobs at rest of it in `sheet`; `now` is what stands in the list
+    pub sheet_done : Turns h → (order sheet : List ℕ) {now : List ℕ} → order_of h ≡ some (take (length (kept h)) order)
         → Picked (at_rest h) order (length (kept h)) sheet → now ≡ take r sheet ++ drop r lent → record { code = 0; place = r; list = now } ≡ list_sheet bytes lent
-    sheet_done t order sheet {now} {r} e many picked stands =
+    sheet_done t order sheet {now} e picked stands =
         let o = take (length (kept h)) order in
         let s = sheet_left h t e in
         let z : r ≡ length (only (at_rest h) o) = many ∙ sym (sheet_length h t (sheet_lowest h s)) in
@@ -68,19 +69,12 @@ module _ (bytes lent : List ℕ) (h : History) (read : read_log bytes ≡ events
 -- ---- the whole order
 
 -- every kept job is placed, or one is missing
-pub whole_as : (h : History) (count : ℕ) (order places : List ℕ) (l : Lists h count order places) (r : Kept) → Keeps h (take l.many order) r → Whole h order r
-whole_as h count order places l Missing x = l.stuck x
-whole_as h count order places l (All n) x = (x.1, l.found x.0)
+module _ {h : History} {count : ℕ} {order places : List ℕ} (l : Lists h count order places) where
+  pub whole_order : {n : ℕ} → Keeps h (take l.many order) (Some n) → Whole h order (Ok tt)
+  whole_order x = l.found x.0
 
-pub whole_none : (h : History) (order : List ℕ) {r : Kept} → r ≡ Missing → Whole h order r → order_of h ≡ none
-whole_none h order e w = subst (Whole h order) e w
-
-pub whole_some : (h : History) (order : List ℕ) {r : Kept} {n : ℕ} → r ≡ All n → Whole h order r → (n ≡ length (kept h)) × (order_of h ≡ some (take (length (kept h)) order))
-whole_some h order e w = subst (Whole h order) e w
-
-pub kept_few : {h : History} {numbers states : List ℕ} {count : ℕ} → Jobs h numbers states count → length (kept h) ≤ 512
-unfolding kept
-kept_few {h} jobs = let a = only_length (λ j. not (has (abandoned h) j)) (opened h) in let b = jobs.many in let c = jobs.few in omega arith
+  pub whole_none : Keeps h (take l.many order) None → Whole h order (Err NoOrder)
+  whole_none x = (refl, l.stuck x)
 
 -- ---- its entries are kept jobs
 

@@ -1,13 +1,36 @@
 -- What the contracts of the morning sheet say. A set of jobs has marks, by their places in the table of jobs; row j of `preds` has the marks of the jobs that precede job j.
 -- Assumes nothing.
-use Rattle.std.specs.Prelude.{◌≡◌, Bool, true, false, not, ◌&&◌, List, ℕ, ◌<◌, eqb, length, get_or, take}
+use Rattle.std.specs.Prelude.{◌≡◌, Bool, true, false, not, ◌&&◌, List, Option, None, Some, Result, Ok, Err, ℕ, ◌<◌, eqb, length, get_or, take}
 use Rattle.std.proofs.Math.Option.{none, some}
 use Rattle.graph.specs.Lists.{only}
 use Rattle.history.specs.Events.{History, kept}
 use Rattle.history.specs.Orders.{order_of}
-use Rattle.checks.specs.declared.Kept.{Kept}
-use Rattle.checks.specs.declared.Kept.TheVariants.{Missing, All}
-use Rattle.tallies.specs.Marks.{mark, in_row, Put}
+use Rattle.verdicts.specs.Logs.{faulty, events, read_log}
+use Rattle.tallies.specs.Jobs.{Jobs}
+use Rattle.tallies.specs.Marks.{mark, in_row, Put, Preceded}
+use Rattle.logs.specs.Faults.{code_of, place_of}
+use Rattle.logs.specs.declared.Fault.{Fault}
+use Rattle.logs.specs.declared.table.Table.{Table}
+use Rattle.lists.specs.declared.Refusal.{Refusal}
+use Rattle.lists.specs.declared.Refusal.TheVariants.{NoOrder}
+
+-- a mark that the row and the set have both, and none only where they have none
+abbrev pub CommonOf : List ℕ → ℕ → List ℕ → Option ℕ → Type 0
+CommonOf rows j words None = (i : ℕ) → i < 512 → mark words i ≡ true → in_row rows j i ≡ false
+CommonOf rows j words (Some r) = (r < 512) × (mark words r ≡ true) × (in_row rows j r ≡ true)
+
+-- ---- the log
+
+-- the log is faulty, or the table tells of its jobs, and row j of `preds` of who precedes job j
+abbrev pub Tells : List ℕ → Result (Unit {0}) Fault → Table → List ℕ → Type 0
+Tells bytes (Err e) t preds = read_log bytes ≡ faulty (code_of e) (place_of e)
+Tells bytes (Ok u) t preds = (h : History) × (read_log bytes ≡ events h) × Jobs h t.numbers t.states t.count × Preceded h t.count preds
+
+-- ---- the jobs that stand as asked for
+
+-- the closure answers the test of each byte; `post` is what it can answer
+abbrev pub Asks : {F : Type 0} → (F → ℕ → Bool → Type 0) → F → (ℕ → Bool) → Type 0
+Asks post asked p = (x : ℕ) (r : Bool) → x < 256 → post asked x r → r ≡ p x
 
 -- ---- a set that grows along the precedences
 
@@ -41,7 +64,7 @@ Numbered numbers count j = (i : ℕ) × (i < count) × (get_or numbers i 0 ≡ j
 abbrev pub Picked : (ℕ → Bool) → List ℕ → ℕ → List ℕ → Type 0
 Picked p order n sheet = take (length (only p (take n order))) sheet ≡ only p (take n order)
 
--- the history has no order, or it stands at the front of the list, and so many jobs are kept
-abbrev pub Whole : History → List ℕ → Kept → Type 0
-Whole h order Missing = order_of h ≡ none
-Whole h order (All n) = (n ≡ length (kept h)) × (order_of h ≡ some (take (length (kept h)) order))
+-- the history has no order, or it stands at the front of the list
+abbrev pub Whole : History → List ℕ → Result (Unit {0}) Refusal → Type 0
+Whole h order (Err e) = (e ≡ NoOrder) × (order_of h ≡ none)
+Whole h order (Ok u) = order_of h ≡ some (take (length (kept h)) order)

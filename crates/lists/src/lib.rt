@@ -1,22 +1,71 @@
 // The lister of an order, and of the morning sheet.
 #![tactic(auto)]
 
-ghost use Rattle.std.specs.Prelude.{◌≡◌, Bool, true, false, not, ◌&&◌, List, [], ◌++◌, ℕ, ◌+◌, ◌*◌, ◌≤◌, ◌<◌, ltb, eqb, length, get_or, set, take, drop};
+ghost use Rattle.std.specs.Prelude.{◌≡◌, Bool, true, false, not, ◌&&◌, List, ◌++◌, ℕ, ◌+◌, ◌*◌, ◌≤◌, ◌<◌, ltb, eqb, length, get_or, set, take, drop, Option, Some};
 ghost use Rattle.graph.specs.Lists.{only};
 ghost use Rattle.history.specs.Events.{History, opened, kept};
 ghost use Rattle.verdicts.specs.Verdicts.{list_order};
 ghost use Rattle.sheet.specs.Sheet.{at_rest, resting, list_sheet};
-ghost use Rattle.tallies.specs.Jobs.{Jobs, Blank, Taken, Rises};
+ghost use Rattle.tallies.specs.Jobs.{Jobs, Blank, Rises};
 ghost use Rattle.tallies.specs.Places.{Lists};
-ghost use Rattle.tallies.specs.Marks.{mark, Put, Struck, Common, Preceded, KeptMarks, Settled, Only, In_word, Sorted};
+ghost use Rattle.tallies.specs.Marks.{mark, Put, Struck, Preceded, KeptMarks, Settled, Only, In_word, Sorted};
 ghost use Rattle.tallies.specs.MarkLaws.{Marking};
-ghost use Rattle.lists.specs.Answers.{answered};
-ghost use Rattle.lists.specs.Sheets.{LedOn, Leading, Grown, Outside, Numbered, Picked, Whole};
+ghost use Rattle.logs.specs.Logs.{Holds};
+ghost use Rattle.lists.specs.declared.Refusal.TheVariants.{Log};
+ghost use Rattle.lists.specs.Answers.{code_of, place_of, answered};
+ghost use Rattle.lists.specs.Sheets.{Tells, Asks, CommonOf, LedOn, Leading, Grown, Outside, Numbered, Picked, Whole};
 
-use checks::Kept;
-use logs::Read;
+use codes::Told;
+use logs::{ABANDONED, ENDED, Fault, Table};
 
-// ---- marks of jobs, 512 in eight words, and rows of them
+// ---- refusals
+
+// Why a log is not listed: its fault, or no order keeps what it did, or the lent list has no room for as many entries as are told.
+#[derive(Clone, Copy, PartialEq, Eq)]
+pub enum Refusal {
+    Log(Fault),
+    NoOrder,
+    Short(usize),
+}
+
+impl From<Fault> for Refusal {
+    ghost from_gives = { λ fault refusal. refusal ≡ Log fault };
+
+    fn from(fault: Fault) -> Refusal {
+        Refusal::Log(fault)
+    }
+}
+
+// As document 01 numbers them.
+impl Told for Refusal {
+    ghost number = { code_of };
+
+    ghost place_of = { place_of };
+
+    fn code(self) -> u32 {
+        match self {
+            Refusal::Log(fault) => fault.code(),
+            Refusal::NoOrder => 17,
+            Refusal::Short(_) => 18,
+        }
+    }
+
+    fn place(self) -> usize {
+        match self {
+            Refusal::Log(fault) => fault.place(),
+            Refusal::NoOrder => 0,
+            Refusal::Short(jobs) => jobs,
+        }
+    }
+}
+
+// What a lister answers: how many entries are written.
+pub type Listed = Result<usize, Refusal>;
+
+// ---- marks of jobs, 64 to a word: 512 in eight words, and tables with a row of eight for each job
+
+// A mark is one of a slice of words, and no method of a type: one function puts it into a set and into a table of sets alike, and the laws of tallies (`Put`, `in_row`) are said of words in a row. A job is its
+// place in the table, a bare index below 512, as arrays and marks take it: a type for it would be taken apart at each use. To put and to strike are one line each, with an operator of its own.
 
 // The mark is put.
 fn put_mark(words: &mut [u64], at: usize)
@@ -34,281 +83,224 @@ fn strike_mark(words: &mut [u64], at: usize)
     words[at / 64] &= !(1u64 << (at % 64));
 }
 
-// The highest mark that the row of `rows` and the set have both, or 512: the job that is placed last of those waited for, mostly, as the lowest go first.
-fn common_mark(rows: &[u64; 4096], row: usize, words: &[u64; 8]) -> usize
+// The highest mark that the row of `rows` and the set have both, where there is one: the job that is placed last of those waited for, mostly, as the lowest go first.
+fn common_mark(rows: &[u64; 4096], row: usize, words: &[u64; 8]) -> Option<usize>
     requires { row < 512 }
-    ensures { (result ≤ 512) × Common rows.now row words.now result }
+    ensures { CommonOf rows.now row words.now result }
 {
     let all = &words[..];
     let theirs = &rows[..];
     let from = row * 8;
-    let mut w: usize = 8;
-    while 0 < w {
-        w -= 1;
+    for w in (0..8).rev() {
         let both = theirs[from + w] & all[w];
         if both != 0 {
-            return w * 64 + (63 - u64::leading_zeros(both) as usize);
+            return Some(w * 64 + (63 - both.leading_zeros() as usize));
         }
     }
-    512
+    None
 }
 
 // ---- who precedes whom
 
-// The predecessors of each job, from the first n records.
-fn gather(told: &[u32; 4096], n: usize, states: &[u8; 512], preds: &mut [u64; 4096])
+// The predecessors of each job, from the first n records: a table does not say how many its log has.
+fn gather(table: &Table, n: usize, preds: &mut [u64; 4096])
     requires { n ≤ 4096 }
-    ensures { (h : History) (numbers : List ℕ) (count : ℕ) → Taken h n numbers states.now told.now count → Blank preds.old → Preceded h count preds.new }
+    ensures { (h : History) → Holds h n table.now → Blank preds.old → Preceded h table.now.count preds.new }
 {
-    let steps = &told[..];
-    let stand = &states[..];
     let mut seen: [u64; 6160] = [0; 6160];
-    let mut i: usize = 0;
-    while i < n {
-        let step = steps[i];
-        if step != 0 {
-            let job = ((step - 1) / 770 % 512) as usize;
-            let row = ((step - 1) % 770) as usize;
-            if stand[job] != 4 {
+    for step in &table.told[..n] {
+        if *step != 0 {
+            // What is told is taken apart where it is used, as in `checks` and `exporter`: two lines, and the laws of tallies are said of these terms.
+            let job = ((*step - 1) / 770 % 512) as usize;
+            let row = ((*step - 1) % 770) as usize;
+            if table.states[job] != ABANDONED {
                 jobsets::join_before(preds, job, &seen, row);
                 put_mark(&mut seen, row * 512 + job);
                 strike_mark(preds, job * 512 + job);
             }
         }
-        i += 1;
     }
 }
 
-// The marks of the kept jobs, and how many they are.
-fn keep(states: &[u8; 512], count: usize, left: &mut [u64; 8]) -> usize
-    requires { count ≤ 512 }
-    ensures { (result ≤ 512) × ((h : History) (numbers : List ℕ) → Jobs h numbers states.now count → Blank left.old → (result ≡ length (kept h)) × KeptMarks h count left.new) }
+// A log is read: its table, and who precedes whom.
+fn read_log(log: &[u8], table: &mut Table, preds: &mut [u64; 4096]) -> Result<(), Fault>
+    ensures { Blank preds.old → Tells log.now result table.new preds.new }
 {
-    let stand = &states[..];
-    let mut kept: usize = 0;
-    let mut i: usize = 0;
-    while i < count {
-        if stand[i] != 4 {
-            put_mark(left, i);
-            kept += 1;
+    logs::read_jobs(log, table)?;
+    gather(table, log.len() / 8, preds);
+    Ok(())
+}
+
+// The jobs that stand as asked for are put into the set, and how many they are.
+fn mark_where<F: Fn(u8) -> bool>(table: &Table, asked: F, marks: &mut [u64; 8]) -> usize
+    requires { F.IsAlwaysCallable asked }
+    ensures { let t = table.now in (result ≤ 512) × ((p : ℕ → Bool) → Asks F.post asked p → Blank marks.old
+        → (result ≡ length (only p (take t.count t.states))) × Marking (λ i. p (get_or t.states i 0)) t.count marks.new) }
+{
+    let mut many: usize = 0;
+    for (i, state) in table.states[..table.count].iter().enumerate() {
+        if asked(*state) {
+            put_mark(marks, i);
+            many += 1;
         }
-        i += 1;
     }
-    kept
+    many
+}
+
+// The marks of the kept jobs, and how many they are.
+fn keep(table: &Table, left: &mut [u64; 8]) -> usize
+    ensures { let t = table.now in (result ≤ 512) × ((h : History) → Jobs h t.numbers t.states t.count → Blank left.old → (result ≡ length (kept h)) × KeptMarks h t.count left.new) }
+{
+    mark_where(table, |state| state != ABANDONED, left)
 }
 
 // ---- the lowest-first order
 
-// A job that is left becomes ready, or waits for a predecessor that is left.
-fn settle(
-    preds: &[u64; 4096],
-    left: &[u64; 8],
-    ready: &mut [u64; 8],
-    waiting: &mut [u64; 4096],
-    job: usize,
-)
-    requires { job < 512 }
-    ensures { Settled (Only job) preds.now left.now ready.old waiting.old ready.new waiting.new }
-{
-    let for_whom = common_mark(preds, job, left);
-    if for_whom == 512 {
-        put_mark(ready, job);
-    } else {
-        put_mark(waiting, for_whom * 512 + job);
+// The jobs that are left, sorted: those that no job left precedes are ready, each other one waits for a job that is left and precedes it. Row by row, `waiting` has the jobs that wait
+// for a job. Who precedes whom, `preds`, is not told here: no job that is placed changes it.
+#[derive(Drop)]
+struct Queue {
+    left: [u64; 8],
+    ready: [u64; 8],
+    waiting: [u64; 4096],
+}
+
+impl Queue {
+    // A job that is left becomes ready, or waits for a predecessor that is left. It stays a call: with its eight words in the loops over a row, an empty word, as most are, costs twice as much.
+    #[inline(never)]
+    fn settle(&mut self, preds: &[u64; 4096], job: usize)
+        requires { job < 512 }
+        ensures { (self.new.left ≡ self.old.left) × Settled (Only job) preds.now self.old.left self.old.ready self.old.waiting self.new.ready self.new.waiting }
+    {
+        match common_mark(preds, job, &self.left) {
+            None => put_mark(&mut self.ready, job),
+            Some(for_whom) => put_mark(&mut self.waiting, for_whom * 512 + job),
+        }
+    }
+
+    // The same of each job of a word of marks, the first of which is that of job `base`.
+    fn settle_word(&mut self, preds: &[u64; 4096], word: u64, base: usize)
+        requires { base + 64 ≤ 512 }
+        ensures { (self.new.left ≡ self.old.left)
+            × Settled (In_word base word) preds.now self.old.left self.old.ready self.old.waiting self.new.ready self.new.waiting }
+    {
+        // As `Rows` of the crate `rows` goes over slots, by the lowest mark left; here a mark is a bare number and no slot.
+        let mut todo = word;
+        while todo != 0 {
+            let job = base + todo.trailing_zeros() as usize;
+            todo &= todo - 1;
+            self.settle(preds, job);
+        }
+    }
+
+    // The first sorting of the jobs that are left.
+    fn sort(&mut self, preds: &[u64; 4096])
+        ensures { (self.new.left ≡ self.old.left) × (Blank self.old.ready → Blank self.old.waiting → Sorted preds.now self.new.left self.new.ready self.new.waiting) }
+    {
+        for w in 0..8 {
+            self.settle_word(preds, self.left[w], w * 64);
+        }
+    }
+
+    // A ready job is placed: it is no longer left, and those that waited for it become ready or wait for another.
+    fn place(&mut self, preds: &[u64; 4096], job: usize)
+        requires { job < 512 }
+        ensures { Sorted preds.now self.old.left self.old.ready self.old.waiting → mark self.old.ready job ≡ true
+            → Struck job self.old.left self.new.left × Sorted preds.now self.new.left self.new.ready self.new.waiting }
+    {
+        strike_mark(&mut self.left, job);
+        strike_mark(&mut self.ready, job);
+        for w in 0..8 {
+            let word = self.waiting[job * 8 + w];
+            self.settle_word(preds, word, w * 64);
+        }
     }
 }
 
-// The same of each job of a word of marks, the first of which is that of job `base`.
-fn settle_word(
-    preds: &[u64; 4096],
-    left: &[u64; 8],
-    ready: &mut [u64; 8],
-    waiting: &mut [u64; 4096],
-    word: u64,
-    base: usize,
-)
-    requires { base + 64 ≤ 512 }
-    ensures { Settled (In_word base word) preds.now left.now ready.old waiting.old ready.new waiting.new }
-{
-    let mut todo = word;
-    while todo != 0 {
-        let job = base + u64::trailing_zeros(todo) as usize;
-        todo &= todo - 1;
-        settle(preds, left, ready, waiting, job);
-    }
-}
-
-// The first sorting of the jobs that are left.
-fn sort(preds: &[u64; 4096], left: &[u64; 8], ready: &mut [u64; 8], waiting: &mut [u64; 4096])
-    ensures { Blank ready.old → Blank waiting.old → Sorted preds.now left.now ready.new waiting.new }
-{
-    let all = &left[..];
-    let mut w: usize = 0;
-    while w < 8 {
-        settle_word(preds, left, ready, waiting, all[w], w * 64);
-        w += 1;
-    }
-}
-
-// A ready job is placed: it is no longer left, and those that waited for it become ready or wait for another.
-fn place_job(
-    preds: &[u64; 4096],
-    left: &mut [u64; 8],
-    ready: &mut [u64; 8],
-    waiting: &mut [u64; 4096],
-    job: usize,
-)
-    requires { job < 512 }
-    ensures { Sorted preds.now left.old ready.old waiting.old → mark ready.old job ≡ true
-        → Struck job left.old left.new × Sorted preds.now left.new ready.new waiting.new }
-{
-    strike_mark(left, job);
-    strike_mark(ready, job);
-    let mut w: usize = 0;
-    while w < 8 {
-        let rows = &waiting[..];
-        let word = rows[job * 8 + w];
-        settle_word(preds, left, ready, waiting, word, w * 64);
-        w += 1;
-    }
-}
-
-// A job is the next of the order: its number, and its place, which counts from 1.
-fn note(
-    numbers: &[u32; 512],
-    order: &mut [u32; 512],
-    placed: &mut [usize; 512],
-    job: usize,
-    n: usize,
-)
+// A job is the next of the order, after n others: its number, and its place, which counts from 1. 0 is the place of a job that has none: `Placed` of tallies and `all_placed` of
+// checks read the list so.
+fn note(table: &Table, order: &mut [u32; 512], placed: &mut [usize; 512], job: usize, n: usize)
     requires { (job < 512) × (n < 512) }
-    ensures { (length order.old ≡ 512) × (length placed.old ≡ 512) × (order.new ≡ set order.old n (get_or numbers.now job 0))
+    ensures { (length order.old ≡ 512) × (length placed.old ≡ 512) × (order.new ≡ set order.old n (get_or table.now.numbers job 0))
         × (placed.new ≡ set placed.old job (n + 1)) }
 {
-    let all = &numbers[..];
     let entries = &mut order[..];
     let places = &mut placed[..];
-    entries[n] = all[job];
+    entries[n] = table.numbers[job];
     places[job] = n + 1;
 }
 
-// The order of so many jobs, the lowest ready one first, and the places of those that could be placed.
+// The order of so many jobs, the lowest ready one first, and the places of those that could be placed. How many are left is counted once, in `keep`. Here and below `preds` and the table
+// stand apart: the history that both are of is the contract's, and no field can hold it.
 fn list_jobs(
     preds: &[u64; 4096],
-    numbers: &[u32; 512],
+    table: &Table,
     jobs: usize,
-    left: &mut [u64; 8],
+    left: &[u64; 8],
     order: &mut [u32; 512],
     placed: &mut [usize; 512],
 )
     requires { jobs ≤ 512 }
-    ensures { (h : History) (states : List ℕ) (count : ℕ) → Jobs h numbers.now states count → Preceded h count preds.now → KeptMarks h count left.old → jobs ≡ length (kept h)
-        → Blank placed.old → Lists h count order.new placed.new }
+    ensures { let t = table.now in (h : History) → Jobs h t.numbers t.states t.count → Preceded h t.count preds.now → KeptMarks h t.count left.now → jobs ≡ length (kept h)
+        → Blank placed.old → Lists h t.count order.new placed.new }
 {
-    let mut ready: [u64; 8] = [0; 8];
-    let mut waiting: [u64; 4096] = [0; 4096];
-    sort(preds, left, &mut ready, &mut waiting);
-    let mut n: usize = 0;
-    while n < jobs {
-        let job = jobsets::lowest_mark(&ready);
-        if job == 512 {
+    let mut queue = Queue {
+        left: *left,
+        ready: [0; 8],
+        waiting: [0; 4096],
+    };
+    queue.sort(preds);
+    for n in 0..jobs {
+        let Some(job) = jobsets::lowest_mark(&queue.ready) else {
             return;
-        }
-        note(numbers, order, placed, job, n);
-        place_job(preds, left, &mut ready, &mut waiting, job);
-        n += 1;
+        };
+        note(table, order, placed, job, n);
+        queue.place(preds, job);
     }
 }
 
-// What the lister answers: the count of kept jobs, or one of the refusals with its place.
-#[derive(Clone, Copy)]
-pub enum Listed {
-    Done(usize),
-    Length,
-    Form(usize),
-    Turn(usize),
-    TooMany(usize),
-    NoOrder,
-    Short(usize),
+// The whole order of so many kept jobs, where there is one.
+fn list_all(
+    preds: &[u64; 4096],
+    table: &Table,
+    jobs: usize,
+    left: &[u64; 8],
+    order: &mut [u32; 512],
+) -> Result<(), Refusal>
+    requires { jobs ≤ 512 }
+    ensures { let t = table.now in (h : History) → Jobs h t.numbers t.states t.count → Preceded h t.count preds.now → KeptMarks h t.count left.now → jobs ≡ length (kept h)
+        → Whole h order.new result }
+{
+    let mut placed: [usize; 512] = [0; 512];
+    list_jobs(preds, table, jobs, left, order, &mut placed);
+    checks::all_placed(&table.states, &placed, table.count).ok_or(Refusal::NoOrder)?;
+    Ok(())
 }
 
-impl Listed {
-    // Document 01's code.
-    pub fn code(self) -> u32
-        ensures { result ≡ (answered self []).code }
-    {
-        match self {
-            Listed::Done(_) => 0,
-            Listed::Length => 11,
-            Listed::Form(_) => 12,
-            Listed::Turn(_) => 13,
-            Listed::TooMany(_) => 14,
-            Listed::NoOrder => 17,
-            Listed::Short(_) => 18,
-        }
-    }
-
-    // The place that goes with it; of an order, the count of kept jobs.
-    pub fn place(self) -> usize
-        ensures { result ≡ (answered self []).place }
-    {
-        match self {
-            Listed::Done(n) => n,
-            Listed::Length => 0,
-            Listed::Form(p) => p,
-            Listed::Turn(p) => p,
-            Listed::TooMany(p) => p,
-            Listed::NoOrder => 0,
-            Listed::Short(n) => n,
-        }
-    }
-}
-
-// The first n entries of the order go to the lent list; the entries past them stay.
+// The first n entries of the order, which has room for 512, go to the lent list; the entries past them stay. Both callers would have to show of a slice of n that it is n long.
 fn copy_out(order: &[u32; 512], n: usize, out: &mut [u32])
     requires { (n ≤ 512) × (n ≤ length out.old) }
     ensures { out.new ≡ take n order.now ++ drop n out.old }
 {
-    let all = &order[..];
-    let mut i: usize = 0;
-    while i < n {
-        out[i] = all[i];
-        i += 1;
-    }
+    out[..n].copy_from_slice(&order[..n]);
 }
 
 // The lowest-first order of a log, in the lent list. On a refusal the list stays.
 pub fn list_order(log: &[u8], out: &mut [u32]) -> Listed
     ensures { answered result out.new ≡ list_order log.now out.old }
 {
-    let mut numbers: [u32; 512] = [0; 512];
-    let mut states: [u8; 512] = [0; 512];
-    let mut told: [u32; 4096] = [0; 4096];
-    match logs::read_jobs(log, &mut numbers, &mut states, &mut told) {
-        Read::Fault(code, place) => match code {
-            11 => Listed::Length,
-            12 => Listed::Form(place),
-            13 => Listed::Turn(place),
-            _ => Listed::TooMany(place),
-        },
-        Read::Jobs(count) => {
-            let mut left: [u64; 8] = [0; 8];
-            let kept = keep(&states, count, &mut left);
-            if out.len() < kept {
-                return Listed::Short(kept);
-            }
-            let mut preds: [u64; 4096] = [0; 4096];
-            gather(&told, log.len() / 8, &states, &mut preds);
-            let mut order: [u32; 512] = [0; 512];
-            let mut placed: [usize; 512] = [0; 512];
-            list_jobs(&preds, &numbers, kept, &mut left, &mut order, &mut placed);
-            if let Kept::Missing = checks::all_placed(&states, &placed, count) {
-                return Listed::NoOrder;
-            }
-            copy_out(&order, kept, out);
-            Listed::Done(kept)
-        }
+    let mut table = Table::blank();
+    let mut preds: [u64; 4096] = [0; 4096];
+    read_log(log, &mut table, &mut preds)?;
+    let mut left: [u64; 8] = [0; 8];
+    let kept = keep(&table, &mut left);
+    if out.len() < kept {
+        return Err(Refusal::Short(kept));
     }
+    let mut order: [u32; 512] = [0; 512];
+    list_all(&preds, &table, kept, &left, &mut order)?;
+    copy_out(&order, kept, out);
+    Ok(kept)
 }
 
 // ---- the morning sheet
@@ -323,18 +315,10 @@ fn has_mark(words: &[u64; 8], at: usize) -> bool
 }
 
 // The marks of the open jobs.
-fn mark_open(states: &[u8; 512], count: usize, moving: &mut [u64; 8])
-    requires { count ≤ 512 }
-    ensures { Blank moving.old → Marking (λ i. ltb (get_or states.now i 0) 3) count moving.new }
+fn mark_open(table: &Table, moving: &mut [u64; 8])
+    ensures { Blank moving.old → Marking (λ i. ltb (get_or table.now.states i 0) 3) table.now.count moving.new }
 {
-    let stand = &states[..];
-    let mut i: usize = 0;
-    while i < count {
-        if stand[i] < 3 {
-            put_mark(moving, i);
-        }
-        i += 1;
-    }
+    mark_where(table, |state| state < ENDED, moving);
 }
 
 // A job that is not in the set, and that a job of the set precedes, is put into it. Was it?
@@ -345,25 +329,22 @@ fn lead_on(preds: &[u64; 4096], moving: &mut [u64; 8], job: usize) -> bool
     if has_mark(moving, job) {
         return false;
     }
-    if common_mark(preds, job, moving) == 512 {
+    if common_mark(preds, job, moving).is_none() {
         return false;
     }
     put_mark(moving, job);
     true
 }
 
-// The same of each job, one after the other. Was one of them?
+// The same of each of so many jobs, one after the other: of a table no more than the count is looked at, and `Leading` goes by it. Was one of them?
+// `Leading` is said of `preds`, the count and the set, so that these stay three.
 fn lead_all(preds: &[u64; 4096], count: usize, moving: &mut [u64; 8]) -> bool
     requires { count ≤ 512 }
     ensures { Leading preds.now count count moving.old moving.new result × Grown moving.old moving.new result }
 {
     let mut grown = false;
-    let mut i: usize = 0;
-    while i < count {
-        if lead_on(preds, moving, i) {
-            grown = true;
-        }
-        i += 1;
+    for i in 0..count {
+        grown |= lead_on(preds, moving, i);
     }
     grown
 }
@@ -373,147 +354,88 @@ fn close(preds: &[u64; 4096], count: usize, moving: &mut [u64; 8])
     requires { count ≤ 512 }
     ensures { Leading preds.now count count moving.old moving.new false }
 {
-    let mut more = true;
-    while more {
-        more = lead_all(preds, count, moving);
-    }
+    while lead_all(preds, count, moving) {}
 }
 
 // Is the job kept, and not in the set?
-fn outside(states: &[u8; 512], moving: &[u64; 8], job: usize) -> bool
+fn outside(table: &Table, moving: &[u64; 8], job: usize) -> bool
     requires { job < 512 }
-    ensures { result ≡ (not (eqb (get_or states.now job 0) 4) && not (mark moving.now job)) }
+    ensures { result ≡ (not (eqb (get_or table.now.states job 0) 4) && not (mark moving.now job)) }
 {
-    let stand = &states[..];
-    if stand[job] == 4 {
-        return false;
-    }
-    !has_mark(moving, job)
+    table.states[job] != ABANDONED && !has_mark(moving, job)
 }
 
-// How many jobs are.
-fn count_outside(states: &[u8; 512], count: usize, moving: &[u64; 8]) -> usize
-    requires { count ≤ 512 }
-    ensures { (result ≤ 512) × ((p : ℕ → Bool) (l : List ℕ) → length l ≡ count → Outside p l count states.now moving.now → result ≡ length (only p l)) }
+// How many jobs are. By hand: a closure in `filter` would need a contract of its own, that its job is one of the 512.
+fn count_outside(table: &Table, moving: &[u64; 8]) -> usize
+    ensures { let t = table.now in (result ≤ 512) × ((p : ℕ → Bool) (l : List ℕ) → length l ≡ t.count → Outside p l t.count t.states moving.now → result ≡ length (only p l)) }
 {
     let mut others: usize = 0;
-    let mut i: usize = 0;
-    while i < count {
-        if outside(states, moving, i) {
+    for i in 0..table.count {
+        if outside(table, moving, i) {
             others += 1;
         }
-        i += 1;
     }
     others
 }
 
 // The jobs that are open or that an open one leads to, and how many of the others are kept: those at rest.
-fn find_moving(
-    preds: &[u64; 4096],
-    states: &[u8; 512],
-    count: usize,
-    moving: &mut [u64; 8],
-) -> usize
-    requires { count ≤ 512 }
-    ensures { (result ≤ 512) × ((h : History) (numbers : List ℕ) → Jobs h numbers states.now count → Preceded h count preds.now → Blank moving.old
-        → (result ≡ length (resting h)) × Outside (at_rest h) (opened h) count states.now moving.new) }
+fn find_moving(preds: &[u64; 4096], table: &Table, moving: &mut [u64; 8]) -> usize
+    ensures { let t = table.now in (result ≤ 512) × ((h : History) → Jobs h t.numbers t.states t.count → Preceded h t.count preds.now → Blank moving.old
+        → (result ≡ length (resting h)) × Outside (at_rest h) (opened h) t.count t.states moving.new) }
 {
-    mark_open(states, count, moving);
-    close(preds, count, moving);
-    count_outside(states, count, moving)
+    mark_open(table, moving);
+    close(preds, table.count, moving);
+    count_outside(table, moving)
 }
 
 // Is the job of this number not in the set?
-fn rests(numbers: &[u32; 512], count: usize, moving: &[u64; 8], job: u32) -> bool
-    requires { count ≤ 512 }
-    ensures { Rises count numbers.now → Numbered numbers.now count job
-        → (i : ℕ) × (i < count) × (get_or numbers.now i 0 ≡ job) × (result ≡ not (mark moving.now i)) }
+fn rests(table: &Table, moving: &[u64; 8], job: u32) -> bool
+    ensures { let t = table.now in Rises t.count t.numbers → Numbered t.numbers t.count job
+        → (i : ℕ) × (i < t.count) × (get_or t.numbers i 0 ≡ job) × (result ≡ not (mark moving.now i)) }
 {
-    let i = logs::find_job(numbers, count, job);
-    if i < count {
-        return !has_mark(moving, i);
+    match table.find(job) {
+        Some(i) => !has_mark(moving, i),
+        None => false,
     }
-    false
 }
 
-// The entries of the order, of so many, whose jobs are not in the set.
-fn pick(
-    order: &[u32; 512],
-    kept: usize,
-    numbers: &[u32; 512],
-    count: usize,
-    moving: &[u64; 8],
-    sheet: &mut [u32; 512],
-)
-    requires { (kept ≤ 512) × (count ≤ 512) }
-    ensures { (p : ℕ → Bool) → Rises count numbers.now → ((k : ℕ) → k < kept → Numbered numbers.now count (get_or order.now k 0))
-        → ((k i : ℕ) → k < kept → i < count → get_or numbers.now i 0 ≡ get_or order.now k 0 → p (get_or order.now k 0) ≡ not (mark moving.now i))
+// The entries of the order, of so many, whose jobs are not in the set. The order has room for 512, and `Picked` goes by how many it has.
+fn pick(order: &[u32; 512], kept: usize, table: &Table, moving: &[u64; 8], sheet: &mut [u32; 512])
+    requires { kept ≤ 512 }
+    ensures { let t = table.now in (p : ℕ → Bool) → Rises t.count t.numbers → ((k : ℕ) → k < kept → Numbered t.numbers t.count (get_or order.now k 0))
+        → ((k i : ℕ) → k < kept → i < t.count → get_or t.numbers i 0 ≡ get_or order.now k 0 → p (get_or order.now k 0) ≡ not (mark moving.now i))
         → Picked p order.now kept sheet.new }
 {
-    let all = &order[..];
     let picked = &mut sheet[..];
+    // Counted by hand: an entry that rests goes to the next free place, and `Picked` goes by how many are put.
     let mut n: usize = 0;
-    let mut i: usize = 0;
-    while i < kept {
-        let job = all[i];
-        if rests(numbers, count, moving, job) {
+    for entry in &order[..kept] {
+        let job = *entry;
+        if rests(table, moving, job) {
             picked[n] = job;
             n += 1;
         }
-        i += 1;
     }
-}
-
-// The whole order, where there is one, and how many jobs it has.
-fn list_all(
-    preds: &[u64; 4096],
-    numbers: &[u32; 512],
-    states: &[u8; 512],
-    count: usize,
-    order: &mut [u32; 512],
-) -> Kept
-    requires { count ≤ 512 }
-    ensures { (h : History) → Jobs h numbers.now states.now count → Preceded h count preds.now → Whole h order.new result }
-{
-    let mut left: [u64; 8] = [0; 8];
-    let kept = keep(states, count, &mut left);
-    let mut placed: [usize; 512] = [0; 512];
-    list_jobs(preds, numbers, kept, &mut left, order, &mut placed);
-    checks::all_placed(states, &placed, count)
 }
 
 // The morning sheet of a log, in the lent list. On a refusal the list stays.
 pub fn list_sheet(log: &[u8], out: &mut [u32]) -> Listed
     ensures { answered result out.new ≡ list_sheet log.now out.old }
 {
-    let mut numbers: [u32; 512] = [0; 512];
-    let mut states: [u8; 512] = [0; 512];
-    let mut steps: [u32; 4096] = [0; 4096];
-    match logs::read_jobs(log, &mut numbers, &mut states, &mut steps) {
-        Read::Fault(code, at) => match code {
-            11 => Listed::Length,
-            12 => Listed::Form(at),
-            13 => Listed::Turn(at),
-            _ => Listed::TooMany(at),
-        },
-        Read::Jobs(count) => {
-            let mut preds: [u64; 4096] = [0; 4096];
-            gather(&steps, log.len() / 8, &states, &mut preds);
-            let mut moving: [u64; 8] = [0; 8];
-            let rest = find_moving(&preds, &states, count, &mut moving);
-            if out.len() < rest {
-                return Listed::Short(rest);
-            }
-            let mut order: [u32; 512] = [0; 512];
-            match list_all(&preds, &numbers, &states, count, &mut order) {
-                Kept::Missing => Listed::NoOrder,
-                Kept::All(kept) => {
-                    let mut sheet: [u32; 512] = [0; 512];
-                    pick(&order, kept, &numbers, count, &moving, &mut sheet);
-                    copy_out(&sheet, rest, out);
-                    Listed::Done(rest)
-                }
-            }
-        }
+    let mut table = Table::blank();
+    let mut preds: [u64; 4096] = [0; 4096];
+    read_log(log, &mut table, &mut preds)?;
+    let mut moving: [u64; 8] = [0; 8];
+    let rest = find_moving(&preds, &table, &mut moving);
+    if out.len() < rest {
+        return Err(Refusal::Short(rest));
     }
+    let mut left: [u64; 8] = [0; 8];
+    let kept = keep(&table, &mut left);
+    let mut order: [u32; 512] = [0; 512];
+    list_all(&preds, &table, kept, &left, &mut order)?;
+    let mut sheet: [u32; 512] = [0; 512];
+    pick(&order, kept, &table, &moving, &mut sheet);
+    copy_out(&sheet, rest, out);
+    Ok(rest)
 }

@@ -3,103 +3,52 @@
 // the end.
 #![tactic(auto)]
 
-ghost use Rattle.std.specs.Prelude.{◌≡◌, ◌+◌, ◌≤◌, ◌<◌, length, take, drop};
-
 use arbiter::{JobNumber, State};
+use host::Sink;
 use std::io::Read;
 
-// One read behind the bytes that wait: how many came, 0 at the end or where the read failed.
-fn read_behind(input: &mut impl Read, buf: &mut [u8], from: usize) -> usize
-    requires { from ≤ length buf.old }
-    ensures { from + result ≤ length buf.old }
-{
-    host::read_some(input, &mut buf[from..])
+// Where the requests of the input go: the state, the place of the next, how many were put off, and room for the lines of a part. The trial program has one of the same shape, but for what was put
+// off: what the two share stands in `host` and `lines`, which does no I/O, and what writes in each program:
+// one `take` and `run` over `lines::Profile` would need the last line as a hook for one of the two.
+#[derive(Drop)]
+struct Locked<'a, 'b, P> {
+    rt: &'a P,
+    out: &'b mut [u8],
+    state: State,
+    place: u64,
+    off: u64,
 }
 
-// Copies count bytes to the start.
-fn to_start(buf: &mut [u8], from: usize, count: usize)
-    requires { from + count ≤ length buf.old }
-    ensures { take count buf.new ≡ take count (drop from buf.old) }
-{
-    let mut i: usize = 0;
-    while i < count {
-        buf[i] = buf[from + i];
-        i += 1;
+impl<P: Print> Sink for Locked<'_, '_, P> {
+    // The lines of a part, written. No more is taken where there was no room for them, or a write failed. No input outlives so many requests that their number does not fit.
+    fn take(&mut self, part: &[u8]) -> bool {
+        let Some(written) = locklines::lock_lines(self.place, &mut self.state, part, self.out)
+        else {
+            return false;
+        };
+        self.place += (part.len() / 8) as u64;
+        self.off = self.off.wrapping_add(written.counted);
+        host::write_all(self.rt, &self.out[..written.bytes])
     }
 }
 
-// The sum of two numbers that come to less than 2^63, as no input outlives so many requests.
-fn sum(off: u64, more: u64) -> u64
-    ensures { off + more < 9223372036854775808 → result ≡ off + more }
-{
-    if 9223372036854775808 <= off {
-        return off;
-    }
-    if 9223372036854775808 <= more {
-        return off;
-    }
-    off + more
-}
-
-fn run(
-    rt: &impl Print,
-    input: &mut impl Read,
-    first: u64,
-    slots: u32,
-    numbers: &mut [u32; 32],
-    leads: &mut [u32; 32],
-    sets: &mut [u64; 512],
-    ports: &mut [u32; 3],
-    buf: &mut [u8],
-    out: &mut [u8],
-) {
+fn run(rt: &impl Print, input: &mut impl Read, buf: &mut [u8], out: &mut [u8]) {
     let n = lines::header(out);
     if !host::write_all(rt, &out[..n]) {
         return;
     }
-    let mut next = first;
-    let mut free = slots;
-    let mut place: u64 = 0;
-    let mut off: u64 = 0;
-    let mut waiting: usize = 0;
-    // No input outlives so many turns.
-    let mut turns: u64 = 4611686018427387904;
-    let mut more = true;
-    while more && turns > 0 {
-        turns -= 1;
-        let got = read_behind(input, buf, waiting);
-        waiting += got;
-        more = got > 0;
-        if !more || 32768 <= waiting {
-            let left = waiting % 8;
-            let whole = waiting - left;
-            let done = locklines::lock_lines(
-                place,
-                next,
-                free,
-                numbers,
-                leads,
-                sets,
-                ports,
-                &buf[..whole],
-                out,
-            );
-            if !done.room {
-                return;
-            }
-            let bytes = done.bytes;
-            if !host::write_all(rt, &out[..bytes]) {
-                return;
-            }
-            next = done.next;
-            free = done.free;
-            place += (whole / 8) as u64;
-            off = sum(off, done.off);
-            to_start(buf, whole, left);
-            waiting = left;
-        }
-    }
-    let last = lines::tail(waiting as u64, out);
+    let mut locked = Locked {
+        rt,
+        out,
+        state: State::fresh(JobNumber(1)),
+        place: 0,
+        off: 0,
+    };
+    let Some(left) = host::hand_on(input, buf, &mut locked) else {
+        return;
+    };
+    let off = locked.off;
+    let last = lines::tail(left as u64, out);
     if !host::write_all(rt, &out[..last]) {
         return;
     }
@@ -108,23 +57,7 @@ fn run(
 }
 
 fn main(rt: HostRuntime) {
-    let state = State::fresh(JobNumber(1));
-    let mut numbers = state.numbers;
-    let mut leads = state.leads;
-    let mut sets = state.sets;
-    let mut ports = state.ports;
     let mut space = host::large_buffer();
     let mut room = [0u8; 360448];
-    run(
-        &rt,
-        &mut rt.stdin(),
-        state.next,
-        state.free,
-        &mut numbers,
-        &mut leads,
-        &mut sets,
-        &mut ports,
-        &mut space,
-        &mut room,
-    );
+    run(&rt, &mut rt.stdin(), &mut space, &mut room);
 }

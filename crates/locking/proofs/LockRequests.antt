@@ -1,28 +1,34 @@
 -- What the proofs of the requests need: a law for each way out of a step that is tested (`off-..`) and of a request that is tested (`put-off-..`), and what is left of a request that is put off,
 -- and of one that is not.
 -- Assumes nothing.
-use mathlib.Core.Path.{◌≡◌, refl, sym, ap, ap₂, ◌∙◌}
+use mathlib.Core.Path.{◌≡◌, refl, sym, ap, ap₂, subst, ◌∙◌}
 use mathlib.Core.Bool.{Bool, true, false, not, ◌&&◌, cond, and-false}
 use mathlib.Core.Option.{Option, none}
+use mathlib.Core.Logic.{◌⊎◌, inl, inr}
 use mathlib.Core.List.{List, []}
-use Prim.Native.Nat.{ℕ, ◌+◌, ◌*◌, ◌%◌, ◌≤◌, ◌<◌}
-use native.Mathlib.Nat.{mod-eq_of_lt}
+use Prim.Native.Nat.{ℕ, ◌≤◌, ◌<◌}
 use lib.Dec.{leb, eqb}
-use lib.ListN.{get_or}
-use borrow.Author.Tests.{le-leb, lt-leb, eq-eqb, ne_eqb}
-use Rattle.history.specs.Events.{Kind, read, write, add, alters}
-use Rattle.history.specs.Formats.{request_of}
-use Rattle.history.specs.Replies.{Request, Want, an_open, a_step, an_end, an_abandon, a_publish, nothing, want}
+use Rattle.std.specs.Prelude.{Result, Ok, Err}
+use borrow.Author.Tests.{le-leb, lt-leb, ne_eqb}
+use Rattle.graph.specs.Decide.{by_test, eq_test}
+use Rattle.history.specs.Events.{Kind, alters}
+use Rattle.history.specs.Replies.{Request, Want, an_open, an_end, an_abandon, nothing, want}
 use Rattle.held.specs.Held.{Held, at_slot, open_at, open_slots, number_at, word_at, cell_at, slot_of, after, answer_to}
 use Rattle.rows.specs.Rows.{rows_of}
-use Rattle.slots.specs.Lent.{lent, Steps}
-use Rattle.slots.specs.declared.Moved.{Moved}
-use Rattle.slots.proofs.RequestLaws.{Found}
+use Rattle.slots.specs.Lent.{lent, numbered, Steps}
+use Rattle.slots.specs.Requests.{kind_number, fields_of}
+use Rattle.slots.specs.declared.JobNumber.{JobNumber}
+use Rattle.slots.specs.declared.Kind as Asked
+use Rattle.slots.specs.declared.Kind.TheVariants as Kinds
+use Rattle.slots.specs.declared.Refusal.{Refusal}
+use Rattle.slots.specs.declared.Request as Fields
+use Rattle.slots.proofs.LowestLaws.{Found}
+use Rattle.slots.proofs.RequestLaws.{no_kind}
 use Rattle.locks.specs.Locks.{of_step}
 use Rattle.locks.specs.LocksHeld.{barred, put_off_at, lock_answer, lock_next}
-use Rattle.locking.specs.Locking.{lock_numbered, packed, Locks, barred_by, held_off}
-use Rattle.locking.specs.declared.LockAnswer.TheVariants.{PutOff, First}
-use Rattle.locking.specs.declared.LockMoved.{LockMoved}
+use Rattle.locking.specs.Locking.{lock_numbered, Locks, barred_by, held_off}
+use Rattle.locking.specs.declared.LockRefusal.{LockRefusal}
+use Rattle.locking.specs.declared.LockRefusal.TheVariants.{PutOff, First}
 
 -- ---- a step
 
@@ -38,11 +44,10 @@ module _ (h : Held) (b : Bool) (j c : ℕ) where
   pub off_not_open : slot_of h j ≡ none → false ≡ held_off h b j c
   off_not_open e = sym (ap (λ (o : Option ℕ). not (leb 256 c) && at_slot o (λ s. barred_by h b s c)) e ∙ and-false (not (leb 256 c)))
 
-  pub off_barred : {s : ℕ} {r : Bool} → c < 256 → Found h j s → r ≡ barred_by (rows_of h.free [] [] h.sets) b s (c % 256) → r ≡ held_off h b j c
+  pub off_barred : {s : ℕ} {r : Bool} → c < 256 → Found h j s → r ≡ barred_by (rows_of h.free [] [] h.sets) b s c → r ≡ held_off h b j c
   off_barred {s} {r} q f e =
       e
-      ∙ barred_rows h b s (c % 256)
-      ∙ ap (λ (x : ℕ). barred_by h b s x) (mod-eq_of_lt q)
+      ∙ barred_rows h b s c
       ∙ sym (ap₂ (λ (t : Bool) (o : Option ℕ). not t && at_slot o (λ i. barred_by h b i c)) (lt-leb 256 c q) f.first)
 
 -- ---- a request
@@ -58,45 +63,50 @@ rest_want : (k : ℕ) (f : Kind → Bool) → (k ≡ 2 → ⊥) → (k ≡ 3 →
 unfolding want
 rest_want k f two three six seven = rw (ne_eqb k 2 two, ne_eqb k 3 three, ne_eqb k 6 six, ne_eqb k 7 seven) (none_of f (eqb k 1) (eqb k 4) (eqb k 5))
 
-module _ (h : Held) (b : List ℕ) where
+module _ (h : Held) (q : Request) where
   -- by what is asked for, once byte 1 is known
   abbrev wanted : Bool → Want → Bool
-  wanted z w = z && of_step (λ k. held_off h (alters k) (request_of b).job (request_of b).cell) w
+  wanted z w = z && of_step (λ k. held_off h (alters k) q.job q.cell) w
 
-  as_wanted : put_off_at h (request_of b) ≡ wanted (eqb (get_or b 1 0) 0) (want (get_or b 0 0))
-  unfolding put_off_at barred request_of
+  as_wanted : put_off_at h q ≡ wanted (eqb q.byte1 0) (want q.kind)
+  unfolding put_off_at barred
   as_wanted = refl
 
-  pub put_off_byte : (get_or b 1 0 ≡ 0 → ⊥) → false ≡ put_off_at h (request_of b)
-  put_off_byte ne = sym (as_wanted ∙ ap (λ (z : Bool). wanted z (want (get_or b 0 0))) (ne_eqb (get_or b 1 0) 0 ne))
+module _ (h : Held) {q : Request} where
+  -- what is no well-formed request
+  pub put_off_none : ((a : Fields.Request) → fields_of a ≡ q → ⊥) → false ≡ put_off_at h q
+  put_off_none none_so =
+      sym
+      (as_wanted h q
+      ∙ by_test (λ (z : Bool). wanted h q z (want q.kind) ≡ false) (eq_test q.byte1 0)
+      (λ z.
+      let n = no_kind none_so z in
+      rest_want q.kind (λ k. held_off h (alters k) q.job q.cell) (n Kinds.Read) (n Kinds.Write) (n Kinds.Publish) (n Kinds.Add))
+      (λ n. refl))
 
-  module _ (z : get_or b 1 0 ≡ 0) where
-    by_want : (w : Want) → want (get_or b 0 0) ≡ w → put_off_at h (request_of b) ≡ wanted true w
-    by_want w e = as_wanted ∙ ap₂ wanted (eq-eqb (get_or b 1 0) 0 z) e
+  -- a well-formed request, by its kind
+  module _ (a : Fields.Request) (e : fields_of a ≡ q) {r : Bool} where
+    by_kind : (k : Asked.Kind) → a.kind ≡ k → r ≡ of_step (λ k. held_off h (alters k) a.job.0 a.cell) (want (kind_number k)) → r ≡ put_off_at h q
+    unfolding put_off_at barred
+    by_kind k ek t =
+        subst (λ (q : Request). r ≡ put_off_at h q) e
+        (t ∙ ap (λ (k : Asked.Kind). of_step (λ (k : Kind). held_off h (alters k) a.job.0 a.cell) (want (kind_number k))) (sym ek))
 
-    module _ {j c : ℕ} {r : Bool} (ej : j ≡ (request_of b).job) (ec : c ≡ (request_of b).cell) where
-      asked : (a : Bool) → r ≡ held_off h a j c → r ≡ held_off h a (request_of b).job (request_of b).cell
-      asked a e = e ∙ ap₂ (held_off h a) ej ec
+    pub put_off_read : a.kind ≡ Kinds.Read → r ≡ held_off h false a.job.0 a.cell → r ≡ put_off_at h q
+    unfolding want
+    put_off_read k = by_kind Kinds.Read k
 
-      pub put_off_read : get_or b 0 0 ≡ 2 → r ≡ held_off h false j c → r ≡ put_off_at h (request_of b)
-      unfolding want
-      put_off_read k e = asked false e ∙ sym (by_want (a_step read) (ap want k))
+    pub put_off_alters : (a.kind ≡ Kinds.Write) ⊎ ((a.kind ≡ Kinds.Publish) ⊎ (a.kind ≡ Kinds.Add)) → r ≡ held_off h true a.job.0 a.cell → r ≡ put_off_at h q
+    unfolding want
+    put_off_alters (inl k) = by_kind Kinds.Write k
+    put_off_alters (inr (inl k)) = by_kind Kinds.Publish k
+    put_off_alters (inr (inr k)) = by_kind Kinds.Add k
 
-      pub put_off_write : get_or b 0 0 ≡ 3 → r ≡ held_off h true j c → r ≡ put_off_at h (request_of b)
-      unfolding want
-      put_off_write k e = asked true e ∙ sym (by_want (a_step write) (ap want k))
-
-      pub put_off_publish : get_or b 0 0 ≡ 6 → r ≡ held_off h true j c → r ≡ put_off_at h (request_of b)
-      unfolding want
-      put_off_publish k e = asked true e ∙ sym (by_want a_publish (ap want k))
-
-      pub put_off_add : get_or b 0 0 ≡ 7 → r ≡ held_off h true j c → r ≡ put_off_at h (request_of b)
-      unfolding want
-      put_off_add k e = asked true e ∙ sym (by_want (a_step add) (ap want k))
-
-    -- the kind is none of the four, as the last arm of a match says it
-    pub put_off_rest : (((Unit {0} × (get_or b 0 0 ≡ 2 → ⊥)) × (get_or b 0 0 ≡ 3 → ⊥)) × (get_or b 0 0 ≡ 6 → ⊥)) × (get_or b 0 0 ≡ 7 → ⊥) → false ≡ put_off_at h (request_of b)
-    put_off_rest n = sym (by_want (want (get_or b 0 0)) refl ∙ rest_want (get_or b 0 0) (λ k. held_off h (alters k) (request_of b).job (request_of b).cell) n.0.0.0.1 n.0.0.1 n.0.1 n.1)
+    pub put_off_rest : (a.kind ≡ Kinds.Open) ⊎ ((a.kind ≡ Kinds.End) ⊎ (a.kind ≡ Kinds.Abandon)) → r ≡ false → r ≡ put_off_at h q
+    unfolding want
+    put_off_rest (inl k) = by_kind Kinds.Open k
+    put_off_rest (inr (inl k)) = by_kind Kinds.End k
+    put_off_rest (inr (inr k)) = by_kind Kinds.Abandon k
 
 -- ---- what is left
 
@@ -105,8 +115,8 @@ looked : (next free : ℕ) (numbers leads sets ports : List ℕ) (q : Request) �
 unfolding put_off_at barred slot_of open_slots open_at number_at word_at cell_at
 looked next free numbers leads sets ports q = refl
 
-module _ (next free : ℕ) (numbers leads sets ports : List ℕ) (q : Request) {b : Bool} (e : b ≡ put_off_at (rows_of free numbers [] sets) q) where
-  pub locks_off : b ≡ true → Locks (lent next free numbers leads sets ports) q (record { next = next; free = free; answer = PutOff }) numbers leads sets ports
+module _ {next free : ℕ} {numbers leads sets ports : List ℕ} {q : Request} {b : Bool} (e : b ≡ put_off_at (rows_of free numbers [] sets) q) where
+  pub locks_off : b ≡ true → Locks (lent next free numbers leads sets ports) q (Err PutOff) (lent next free numbers leads sets ports)
   unfolding lock_answer lock_next
   locks_off t =
       let h = lent next free numbers leads sets ports in
@@ -116,19 +126,18 @@ module _ (next free : ℕ) (numbers leads sets ports : List ℕ) (q : Request) {
         left = ap (λ (x : Bool). cond x h (after h q)) o;
       }
 
-  pub locks_first : {m : Moved} {numbers₁ leads₁ sets₁ ports₁ : List ℕ} → b ≡ false → Steps (lent next free numbers leads sets ports) q m numbers₁ leads₁ sets₁ ports₁
-      → Locks (lent next free numbers leads sets ports) q (record { next = m.next; free = m.free; answer = First m.answer }) numbers₁ leads₁ sets₁ ports₁
+  locks_first : b ≡ false → {a : Result JobNumber Refusal} {r : Result JobNumber LockRefusal} {g : Held} → Steps (lent next free numbers leads sets ports) q a g → lock_numbered r ≡ numbered a → Locks (lent next free numbers leads sets ports) q r g
   unfolding lock_answer lock_next
-  locks_first f s =
+  locks_first f s n =
       let h = lent next free numbers leads sets ports in
       let o : false ≡ put_off_at h q = sym f ∙ e ∙ looked next free numbers leads sets ports q in
       record {
-        answered = s.answered ∙ ap (λ (x : Bool). cond x (record { code = 10; job = 0 }) (answer_to h q)) o;
+        answered = n ∙ s.answered ∙ ap (λ (x : Bool). cond x (record { code = 10; job = 0 }) (answer_to h q)) o;
         left = s.left ∙ ap (λ (x : Bool). cond x h (after h q)) o;
       }
 
--- what `reedtangle_lock_step` says, from what `lock_in_place` ensures
-pub packs : {h : Held} {q : Request} {r : LockMoved} {numbers leads sets ports : List ℕ} {n k : ℕ} → Locks h q r numbers leads sets ports → n ≡ (lock_numbered r.answer).code → k ≡ (lock_numbered r.answer).job
-    → (n * 4294967296 + k ≡ packed (lock_answer h q)) × (lent r.next r.free numbers leads sets ports ≡ lock_next h q)
-unfolding packed
-packs s en ek = (ap₂ (λ (x y : ℕ). x * 4294967296 + y) en ek ∙ ap packed s.answered, s.left)
+  pub locks_granted : b ≡ false → {j : JobNumber} {g : Held} → Steps (lent next free numbers leads sets ports) q (Ok j) g → Locks (lent next free numbers leads sets ports) q (Ok j) g
+  locks_granted f s = locks_first f s refl
+
+  pub locks_refused : b ≡ false → {x : Refusal} {g : Held} → Steps (lent next free numbers leads sets ports) q (Err x) g → Locks (lent next free numbers leads sets ports) q (Err (First x)) g
+  locks_refused f s = locks_first f s refl

@@ -7,25 +7,25 @@ use Rattle.graph.specs.Decide.{some_of}
 use Rattle.history.specs.Replies.{cells, Request, Reply}
 use Rattle.held.specs.Held.{Held, as_used, as_altered, own_at, open_slots, at_slot, slot_of}
 use Rattle.rows.specs.Rows.{is_open}
-use Rattle.slots.specs.Lent.{lent, numbered}
+use Rattle.std.specs.Prelude.{Result}
+use Rattle.slots.specs.Lent.{refusal_code, reply_by}
+use Rattle.slots.specs.declared.JobNumber.{JobNumber}
 use Rattle.locks.specs.LocksHeld.{lock_answer, lock_next}
-use Rattle.locking.specs.declared.LockAnswer.{LockAnswer}
-use Rattle.locking.specs.declared.LockAnswer.TheVariants.{PutOff, First}
-use Rattle.locking.specs.declared.LockMoved.{LockMoved}
+use Rattle.locking.specs.declared.LockRefusal.{LockRefusal}
+use Rattle.locking.specs.declared.LockRefusal.TheVariants.{PutOff, First}
 
 -- the code and the job of each answer
-abbrev pub lock_numbered : LockAnswer → Reply
-lock_numbered PutOff = record { code = 10; job = 0 }
-lock_numbered (First a) = numbered a
+abbrev pub lock_code : LockRefusal → ℕ
+lock_code PutOff = 10
+lock_code (First e) = refusal_code e
 
--- a reply in one number: its code times 2^32 plus its job, which is below that
-unfoldable pub packed : Reply → ℕ
-packed a = a.code * 4294967296 + a.job
+abbrev pub lock_numbered : Result JobNumber LockRefusal → Reply
+lock_numbered = reply_by lock_code
 
--- what a request leaves
-pub record Locks (h : Held) (q : Request) (r : LockMoved) (numbers leads sets ports : List ℕ) : Type 0 where
-  pub answered : lock_numbered r.answer ≡ lock_answer h q
-  pub left : lent r.next r.free numbers leads sets ports ≡ lock_next h q
+-- what a request leaves: the answer, and the state that is left
+pub record Locks (h : Held) (q : Request) (r : Result JobNumber LockRefusal) (g : Held) : Type 0 where
+  pub answered : lock_numbered r ≡ lock_answer h q
+  pub left : g ≡ lock_next h q
 
 -- ---- what bars a step
 

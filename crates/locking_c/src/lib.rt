@@ -3,9 +3,8 @@
 
 ghost use Rattle.std.specs.Prelude.{◌≡◌};
 ghost use Rattle.history.specs.Formats.{request_of};
-ghost use Rattle.slots.specs.Lent.{lent};
+ghost use Rattle.slots.specs.Lent.{lent, packed};
 ghost use Rattle.locks.specs.LocksHeld.{lock_answer, lock_next};
-ghost use Rattle.locking.specs.Locking.{packed};
 
 // One request by locks on the state that the host keeps: code times 2^32 plus job.
 #[unsafe(no_mangle)]

@@ -5,8 +5,8 @@ use mathlib.Core.Path.{◌≡◌}
 use contract.Lifetimes.{Lfts}
 use borrow.Fn.Kinds.{Dens, res_t, ended_of}
 use denote.Triple.Clauses.{AtExit}
-use Rattle.lines.specs.LineLaws.{starts_one}
-use Rattle.locklines.specs.LockLineLaws.{lock_writes_one}
+use Rattle.lines.specs.LineLaws.{starts_one, leaves_one}
+use Rattle.lines.proofs.OneAnswer.{one_state}
 use Rattle.locklines.proofs.off_line.Kinds as off_kinds
 use Rattle.locklines.proofs.off_line.Reads as off_reads
 use Rattle.locklines.proofs.lock_lines.Kinds as lines_kinds
@@ -19,9 +19,9 @@ pub one_off_line : (κs : Lfts 1) (a : Dens κs off_kinds.ps) (x y : (res_t off_
     → (x ≡ y) × (s.1.0.now ≡ t.1.0.now)
 one_off_line κs a x y s t p q = let one = starts_one p q in (one.1, one.0)
 
--- the lines: what it returns, and at exit the four arrays of the state, its fourth to seventh parameter, and the output, its ninth
-pub one_lock_lines : (κs : Lfts 6) (a : Dens κs lines_kinds.ps) (x y : (res_t lines_kinds.r κs).Denot) (s t : AtExit (ended_of 6 lines_kinds.ps lines_kinds.r) κs)
+-- the lines: what it returns, and at exit the state, its second parameter, and the output, its fourth
+pub one_lock_lines : (κs : Lfts 3) (a : Dens κs lines_kinds.ps) (x y : (res_t lines_kinds.r κs).Denot) (s t : AtExit (ended_of 3 lines_kinds.ps lines_kinds.r) κs)
     → lines_reads.Post κs a x s
     → lines_reads.Post κs a y t
-    → (x ≡ y) × (s.1.1.1.0.now ≡ t.1.1.1.0.now) × (s.1.1.1.1.0.now ≡ t.1.1.1.1.0.now) × (s.1.1.1.1.1.0.now ≡ t.1.1.1.1.1.0.now) × (s.1.1.1.1.1.1.0.now ≡ t.1.1.1.1.1.1.0.now) × (s.1.1.1.1.1.1.1.1.0.now ≡ t.1.1.1.1.1.1.1.1.0.now)
-one_lock_lines κs a x y s t p q = lock_writes_one p q
+    → (x ≡ y) × (s.1.0.now ≡ t.1.0.now) × (s.1.1.1.0.now ≡ t.1.1.1.0.now)
+one_lock_lines κs a x y s t p q = let one = leaves_one p q in (one.0, one_state s.1.0.now t.1.0.now one.1, one.2)

@@ -1,12 +1,12 @@
 -- Lines by locks of an input that comes in parts, and what the program `locked` prints, by the rule of locks over the slots.
 -- Assumes nothing.
-use Rattle.std.specs.Prelude.{◌≡◌, refl, ℕ, suc, ◌+◌, ◌/◌, ◌%◌}
+use Rattle.std.specs.Prelude.{◌≡◌, refl, ℕ, suc, ◌+◌, ◌/◌, ◌%◌, ◌≤◌, ◌<◌, Some}
 use Rattle.std.proofs.Common.{sym, ◌∙◌, add-zero, arith}
 use Rattle.std.proofs.Math.Path.{ap}
 use mathlib.Core.List.{List, [], ◌∷◌, ◌++◌, append_assoc}
 use Rattle.std.proofs.Math.Dec.{eqb}
 use Rattle.std.proofs.Math.ListN.{length, length-append}
-use Rattle.graph.specs.Lists.{only, only_append}
+use Rattle.graph.specs.Lists.{only, only_append, only_length}
 use Rattle.history.specs.Formats.{records}
 use Rattle.history_laws.specs.RecordLaws.{records_length}
 use Rattle.history.specs.Replies.{Request, Reply}
@@ -15,10 +15,11 @@ use Rattle.locks.specs.Locks.{put_off}
 use Rattle.locks.specs.LocksHeld.{lock_answer, lock_next, lock_answers, lock_state}
 use Rattle.locks.proofs.LockPromises.{locks_exact}
 use Rattle.lines.specs.Lines.{line, lines, header_line, tail_line}
-use Rattle.lines.specs.LineLaws.{records_append, starts_one}
+use Rattle.lines.specs.Writes.{most_place, roomy_place}
+use Rattle.lines.specs.LineLaws.{records_append, leaves_some}
+use Rattle.lines.specs.declared.Written.{Written}
 use Rattle.locklines.specs.LockLines.{lock_lines_of, off_of, off_bytes, locked_output}
 use Rattle.locklines.specs.LockWrites.{LockWrites}
-use Rattle.locklines.specs.declared.LockWritten.{LockWritten}
 
 lines_append : (p : ℕ) (x y : List Reply) → lines p (x ++ y) ≡ lines p x ++ lines (p + length x) y
 lines_append p [] y = ap (λ (k : ℕ). lines k y) (sym (add-zero p))
@@ -67,20 +68,16 @@ unfolding locked_output lock_lines_of off_of
 locked_lines input =
     ap (λ (l : List Reply). header_line ++ lines 0 l ++ tail_line (length input % 8) ++ off_bytes (put_off l)) (sym (locks_exact 1 (records input)))
 
--- ---- a contract leaves one result
+-- ---- a run of lines
 
-pub lock_writes_one : {p : ℕ} {h : Held} {input out : List ℕ} {r s : LockWritten} {numbers leads sets ports x numbers' leads' sets' ports' y : List ℕ}
-    → LockWrites p h input out r numbers leads sets ports x → LockWrites p h input out s numbers' leads' sets' ports' y
-    → (r ≡ s) × (numbers ≡ numbers') × (leads ≡ leads') × (sets ≡ sets') × (ports ≡ ports') × (x ≡ y)
-lock_writes_one {r = r} {s = s} a b =
-    let left = a.left ∙ sym b.left in
-    let one = starts_one a.put b.put in
-    let counted = a.counted ∙ sym b.counted in
-    let room = a.room ∙ sym b.room in (
-      λ i. record { next = (left i).next; free = (left i).free; bytes = one.1 i; off = counted i; room = room i },
-      λ i. (left i).numbers,
-      λ i. (left i).leads,
-      λ i. (left i).sets,
-      λ i. (left i).ports,
-      one.0,
-    )
+-- where a run answers, the place is below the most, the count of bytes within the output, and no more are put off than there are whole records
+pub lock_writes_some : (p : ℕ) (input : List ℕ) {h g : Held} {out out' : List ℕ} {w : Written} → LockWrites p h input out (Some w) g out'
+    → (p < most_place) × (w.bytes ≤ length out') × (w.counted ≤ length input / 8)
+unfolding off_of
+lock_writes_some p input {h} {out = out} {w = w} a =
+    let s = leaves_some a in
+    let bytes : w.bytes ≡ length (lock_lines_of p h input) = ap (λ (v : Written). v.bytes) s.1 in
+    let off : w.counted ≡ off_of h input = ap (λ (v : Written). v.counted) s.1 in
+    let few = only_length (λ (r : Reply). eqb r.code 10) (lock_answers h (records input)) in
+    let l = answers_length h (records input) ∙ records_length input in
+    (roomy_place p input out s.0, omega (arith, bytes, s.2), omega (arith, off, few, l))

@@ -1,3 +1,4 @@
+pub mod FoundLaws
 pub mod SearchLaws
 pub mod ReadLaws
 pub mod OneAnswer

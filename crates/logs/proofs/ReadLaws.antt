@@ -1,53 +1,65 @@
--- The reading of a log, record by record: so many records are read as the events h, and the rest is still to be read after them. Then what a reading gives, by its answer.
+-- The reading of a log, record by record: so many records are read as the events h, and the rest is still to be read after them.
 -- Assumes nothing.
-use mathlib.Core.Path.{◌≡◌, refl, sym, ap, ◌∙◌, subst}
-use mathlib.Core.Logic.{inl, inr, ⊎_elim}
+use mathlib.Core.Path.{◌≡◌, refl, sym, ap, ap₂, ◌∙◌, subst, subst₂}
+use mathlib.Core.Logic.{◌⊎◌, ⊎_elim}
 use mathlib.Core.Bool.{Bool, cond}
 use mathlib.Core.Option.{none, some}
 use mathlib.Core.List.{List, [], ◌++◌}
 use Prim.Native.Nat.{ℕ, zero, suc, ◌+◌, ◌/◌, ◌%◌, ◌≤◌, ◌<◌}
 use native.Mathlib.Numerals.{add-one}
 use native.Mathlib.Omega.{arith}
-use borrow.Author.Tests.{eq-eqb, ne_eqb}
-use lib.Dec.{eqb}
+use borrow.Author.Tests.{eq-eqb, ne_eqb, lt-ltb}
+use lib.Dec.{eqb, ltb}
 use lib.ListN.{length, drop, get_elem?}
+use Rattle.std.specs.Prelude.{Option, Result, Ok, Err}
+use Rattle.std.specs.Iterator.Adapters.{enumerate_source, enumerate_count}
+use Rattle.std.specs.declared.iter.Enumerate.{Enumerate}
 use Rattle.graph.specs.Decide.{or_test, not_test, eq_test, lt_test, test_true, test_false}
 use Rattle.history.specs.Events.{History, opened}
 use Rattle.history.specs.Formats.{records}
-use Rattle.history_laws.specs.RecordLaws.{drop_record, drop_none, record_none}
+use Rattle.history_laws.specs.RecordLaws.{drop_record, drop_none}
 use Rattle.history.specs.Replies.{Request, want, event_of}
-use Rattle.verdicts.specs.Logs.{record_bytes, most_bytes, most_jobs, fault_of, Reading, faulty, events, read_from, read_log}
-use Rattle.tallies.specs.Jobs.{Padded, Taken, Takes}
-use Rattle.logs.specs.Logs.{Reads}
-use Rattle.logs.specs.declared.Read.{Read}
-use Rattle.logs.specs.declared.Read.TheVariants.{Fault, Jobs}
-
--- the events so far, and what is left
-pub record Along (bytes : List ℕ) (i : ℕ) (numbers states told : List ℕ) (count : ℕ) : Type 0 where
-  pub so_far : History
-  pub taken : Taken so_far i numbers states told count
-  pub left : read_log bytes ≡ read_from so_far i (drop i (records bytes))
+use Rattle.verdicts.specs.Logs.{record_bytes, most_bytes, fault_of, Reading, faulty, events, read_from, read_log}
+use Rattle.tallies.specs.Jobs.{Padded}
+use Rattle.tallies.specs.PadLaws.{padded_zeros}
+use Rattle.reader.specs.Next.{told, moved_on}
+use Rattle.reader.specs.declared.Record.{Record}
+use Rattle.reader.specs.declared.Reader.{Reader}
+use Rattle.reader.proofs.Laws.{read_inside}
+use Rattle.logs.specs.Faults.{code_of, place_of}
+use Rattle.logs.specs.Logs.{Holds, IsBlank, request, Took}
+use Rattle.logs.specs.declared.Fault.{Fault}
+use Rattle.logs.specs.declared.Fault.TheVariants.{Length, Form, Turn, TooMany}
+use Rattle.logs.specs.declared.table.Table.{Table}
 
 -- ---- the length
 
-pub bad_length : (bytes : List ℕ) → (length bytes % 8 ≡ 0 → ⊥) → read_log bytes ≡ faulty 11 0
+pub bad_length : (bytes : List ℕ) → (length bytes % 8 ≡ 0 → ⊥) ⊎ (32768 < length bytes) → read_log bytes ≡ faulty 11 0
 unfolding read_log
 bad_length bytes f =
     ap (λ (b : Bool). cond b (faulty 11 0) (read_from [] zero (records bytes)))
-    (test_true (or_test (not_test (eq_test (length bytes % record_bytes) 0)) (lt_test most_bytes (length bytes))) (inl f))
+    (test_true (or_test (not_test (eq_test (length bytes % record_bytes) 0)) (lt_test most_bytes (length bytes))) f)
 
-pub too_long : (bytes : List ℕ) → most_bytes < length bytes → read_log bytes ≡ faulty 11 0
-unfolding read_log
-too_long bytes q =
-    ap (λ (b : Bool). cond b (faulty 11 0) (read_from [] zero (records bytes)))
-    (test_true (or_test (not_test (eq_test (length bytes % record_bytes) 0)) (lt_test most_bytes (length bytes))) (inr q))
+-- ---- a record, by its kind
+
+pub took_as : (h : History) (n c j : ℕ) (result : Result (Unit {0}) Fault) (t : Table) {k b k₀ : ℕ} → k ≡ k₀ → b ≡ 0 → Took h n (request k₀ 0 c j) result t → Took h n (request k b c j) result t
+took_as h n c j result t e z = subst₂ (λ (x y : ℕ). Took h n (request x y c j) result t) (sym e) (sym z)
 
 -- ---- the loop
 
-pub along_start : (bytes numbers states told : List ℕ) → length bytes % 8 ≡ 0 → length bytes ≤ most_bytes → Padded numbers most_jobs 0 → Padded states most_jobs 0 → Padded told 4096 0
-    → Along bytes 0 numbers states told 0
+-- the events so far, and what is left
+pub record Along (bytes : List ℕ) (i : ℕ) (t : Table) : Type 0 where
+  pub so_far : History
+  pub taken : Holds so_far i t
+  pub left : read_log bytes ≡ read_from so_far i (drop i (records bytes))
+
+pub along_start : (bytes : List ℕ) (t : Table) → length bytes % 8 ≡ 0 → length bytes ≤ most_bytes → IsBlank t → Along bytes 0 t
 unfolding read_log opened
-along_start bytes numbers states told whole short pn ps pt =
+along_start bytes t whole short blank =
+    let pn : Padded t.numbers 512 0 = subst (λ (l : List ℕ). Padded l 512 0) (sym blank.0) (padded_zeros 512) in
+    let ps : Padded t.states 512 0 = subst (λ (l : List ℕ). Padded l 512 0) (sym blank.1) (padded_zeros 512) in
+    let pt : Padded t.told 4096 0 = subst (λ (l : List ℕ). Padded l 4096 0) (sym blank.2) (padded_zeros 4096) in
+    let none_yet : t.count ≡ 0 = blank.3 in
     record {
       so_far = [];
       taken =
@@ -55,12 +67,12 @@ along_start bytes numbers states told whole short pn ps pt =
             jobs =
                 record {
                   turns = tt;
-                  many = refl;
+                  many = none_yet;
                   few = omega arith;
                   named = λ i q. absurd (omega arith);
                   stated = λ i q. absurd (omega arith);
-                  numbers_padded = pn;
-                  states_padded = ps;
+                  numbers_padded = subst (Padded t.numbers 512) (sym none_yet) pn;
+                  states_padded = subst (Padded t.states 512) (sym none_yet) ps;
                 };
             at = refl;
             steps_told = tt;
@@ -74,8 +86,7 @@ along_start bytes numbers states told whole short pn ps pt =
     }
 
 -- a record: its fault, or one event more
-module _ {bytes : List ℕ} {i : ℕ} {numbers states told : List ℕ} {count : ℕ} (a : Along bytes i numbers states told count)
-    {r : Request} (there : some r ≡ get_elem? (records bytes) i) where
+module _ {bytes : List ℕ} {i : ℕ} {t : Table} (a : Along bytes i t) {r : Request} (there : some r ≡ get_elem? (records bytes) i) where
   rest : Reading
   rest = read_from (a.so_far ++ event_of r.job (want r.kind) r.job r.cell) (suc i) (drop (suc i) (records bytes))
 
@@ -83,40 +94,58 @@ module _ {bytes : List ℕ} {i : ℕ} {numbers states told : List ℕ} {count : 
   unfolding rest
   by_test = a.left ∙ ap (read_from a.so_far i) (drop_record (records bytes) i (sym there))
 
-  module _ {code : ℕ} {numbers' states' told' : List ℕ} {count' : ℕ} (t : Takes a.so_far i r code numbers' states' told' count') where
-    pub along_fault : (code ≡ 0 → ⊥) → read_log bytes ≡ faulty code i
-    along_fault f =
-        by_test
-        ∙ ap (λ (k : ℕ). cond (eqb k 0) rest (faulty k i)) (sym t.fault)
-        ∙ ap (λ (b : Bool). cond b rest (faulty code i)) (ne_eqb code 0 f)
+  faulty_here : {code : ℕ} → code ≡ fault_of a.so_far r → (code ≡ 0 → ⊥) → read_log bytes ≡ faulty code i
+  faulty_here {code} e f =
+      by_test
+      ∙ ap (λ (k : ℕ). cond (eqb k 0) rest (faulty k i)) (sym e)
+      ∙ ap (λ (b : Bool). cond b rest (faulty code i)) (ne_eqb code 0 f)
 
-    pub along_next : code ≡ 0 → Along bytes (i + 1) numbers' states' told' count'
-    unfolding rest
-    along_next z =
-        subst (λ (k : ℕ). Along bytes k numbers' states' told' count') (sym (add-one i))
-        (record {
-          so_far = a.so_far ++ event_of r.job (want r.kind) r.job r.cell;
-          taken = t.next z;
-          left = by_test ∙ ap (λ (b : Bool). cond b rest (faulty (fault_of a.so_far r) i)) (eq-eqb (fault_of a.so_far r) 0 (sym t.fault ∙ z));
-        })
+  pub along_fault : (u : Table) (e : Fault) → Took a.so_far i r (Err e) u → read_log bytes ≡ faulty (code_of e) (place_of e)
+  along_fault u e t = faulty_here t.0.fault (no_grant e) ∙ ap (faulty (code_of e)) (sym t.1)
+    where
+      no_grant : (e : Fault) → code_of e ≡ 0 → ⊥
+      no_grant Length q = omega arith
+      no_grant (Form p) q = omega arith
+      no_grant (Turn p) q = omega arith
+      no_grant (TooMany p) q = omega arith
+
+  pub along_next : (u : Table) → Took a.so_far i r (Ok tt) u → Along bytes (i + 1) u
+  unfolding rest
+  along_next u t =
+      subst (λ (k : ℕ). Along bytes k u) (sym (add-one i))
+      (record {
+        so_far = a.so_far ++ event_of r.job (want r.kind) r.job r.cell;
+        taken = t.next refl;
+        left = by_test ∙ ap (λ (b : Bool). cond b rest (faulty (fault_of a.so_far r) i)) (eq-eqb (fault_of a.so_far r) 0 (sym t.fault));
+      })
 
 -- no record is left
-module _ {bytes : List ℕ} {i : ℕ} {numbers states told : List ℕ} {count : ℕ} (a : Along bytes i numbers states told count) where
-  pub along_end : none ≡ get_elem? (records bytes) i → (h : History) × (read_log bytes ≡ events h) × Taken h (length h) numbers states told count
-  along_end e = (
-    a.so_far,
-    a.left ∙ ap (read_from a.so_far i) (drop_none (records bytes) i (sym e)),
-    subst (λ (k : ℕ). Taken a.so_far k numbers states told count) a.taken.at a.taken,
-  )
+module _ {bytes : List ℕ} {i : ℕ} {t : Table} (a : Along bytes i t) where
+  pub along_end : none ≡ get_elem? (records bytes) i → (h : History) × (read_log bytes ≡ events h) × Holds h (length h) t
+  along_end e =
+      (a.so_far, a.left ∙ ap (read_from a.so_far i) (drop_none (records bytes) i (sym e)), subst (λ (k : ℕ). Holds a.so_far k t) a.taken.at a.taken)
 
-  pub along_past : length bytes / 8 ≤ i → (h : History) × (read_log bytes ≡ events h) × Taken h (length h) numbers states told count
-  along_past q = along_end (sym (record_none bytes i q))
+-- ---- the reader
 
--- ---- what a reading gives
+-- it reads the log, and its place is the count of what it has read
+pub record Standing (bytes : List ℕ) (it : Enumerate Reader) : Type 0 where
+  pub of_log : (enumerate_source it).log.now ≡ bytes
+  pub at : (enumerate_source it).place ≡ enumerate_count it
 
-module _ (bytes numbers states told : List ℕ) where
-  pub read_fault : {r : Read} {c p : ℕ} → r ≡ Fault c p → Reads bytes r numbers states told → read_log bytes ≡ faulty c p
-  read_fault e x = subst (λ (r : Read). Reads bytes r numbers states told) e x
+-- what it reads stands there, and then it stands at the next
+module _ {bytes : List ℕ} {it : Enumerate Reader} (s : Standing bytes it) where
+  pub read_there : (x : Option Record) → told x ≡ get_elem? (records (enumerate_source it).log.now) (enumerate_source it).place → told x ≡ get_elem? (records bytes) (enumerate_count it)
+  read_there x e = e ∙ ap₂ (λ (b : List ℕ) (n : ℕ). get_elem? (records b) n) s.of_log s.at
 
-  pub read_jobs : {r : Read} {n : ℕ} → r ≡ Jobs n → Reads bytes r numbers states told → Reads bytes (Jobs n) numbers states told
-  read_jobs e x = subst (λ (r : Read). Reads bytes r numbers states told) e x
+  pub stands_next : {next : Enumerate Reader} (r : Request) → some r ≡ get_elem? (records bytes) (enumerate_count it) → enumerate_source next ≡ moved_on (enumerate_source it)
+      → enumerate_count next ≡ enumerate_count it + 1 → Standing bytes next
+  stands_next r e m n =
+      let l : enumerate_count it < length bytes / 8 = read_inside bytes (enumerate_count it) e in
+      record {
+        of_log = ap (λ (r : Reader). r.log.now) m ∙ s.of_log;
+        at =
+            ap (λ (r : Reader). r.place) m
+            ∙ ap₂ (λ (b : List ℕ) (n : ℕ). cond (ltb n (length b / 8)) (n + 1) n) s.of_log s.at
+            ∙ ap (λ (b : Bool). cond b (enumerate_count it + 1) (enumerate_count it)) (lt-ltb _ _ l)
+            ∙ sym n;
+      }

@@ -2,6 +2,7 @@
 -- That it finds the job among numbers that rise is in tallies (FindLaws).
 -- Assumes nothing.
 use mathlib.Core.Path.{◌≡◌, refl, sym, ap, ◌∙◌}
+use mathlib.Core.Logic.{⊎_elim}
 use mathlib.Core.Bool.{Bool, true, false, cond}
 use mathlib.Core.List.{List}
 use Prim.Native.Nat.{ℕ, zero, suc, ◌+◌, ◌-◌, ◌/◌, ◌≤◌, ◌<◌}
@@ -9,7 +10,9 @@ use native.Mathlib.Omega.{arith}
 use borrow.Author.Tests.{eq-eqb, ne_eqb, lt-ltb, le-ltb, le-leb, lt-leb}
 use lib.Dec.{leb, eqb}
 use lib.ListN.{get_or}
-use Rattle.logs.specs.Logs.{halved, there, searched}
+use Rattle.std.specs.Prelude.{Option, Some, None}
+use Rattle.tallies.specs.Jobs.{Finds}
+use Rattle.logs.specs.Search.{halved, there, searched}
 
 none_up : (b : Bool) (low : ℕ) → low + cond b 0 0 ≡ low
 none_up true low = omega arith
@@ -44,37 +47,41 @@ turned_on {l} {j} {count} {low} {size} t q {up} e = go t.left t.enough t.same
 
 -- ---- what is there
 
-module _ (l : List ℕ) (count j at other : ℕ) where
-  there_own : at < count → get_or l at 0 ≡ j → at ≡ there l count j at other
+module _ (l : List ℕ) (count j at : ℕ) (other : Option ℕ) where
+  there_own : at < count → get_or l at 0 ≡ j → Some at ≡ there l count j at other
   there_own q e =
-      sym (ap (λ (b : Bool). cond b (cond (eqb (get_or l at 0) j) at other) other) (lt-ltb at count q) ∙ ap (λ (b : Bool). cond b at other) (eq-eqb (get_or l at 0) j e))
+      sym (ap (λ (b : Bool). cond b (cond (eqb (get_or l at 0) j) (Some at) other) other) (lt-ltb at count q) ∙ ap (λ (b : Bool). cond b (Some at) other) (eq-eqb (get_or l at 0) j e))
 
   there_other : at < count → (get_or l at 0 ≡ j → ⊥) → other ≡ there l count j at other
   there_other q f =
-      sym (ap (λ (b : Bool). cond b (cond (eqb (get_or l at 0) j) at other) other) (lt-ltb at count q) ∙ ap (λ (b : Bool). cond b at other) (ne_eqb (get_or l at 0) j f))
+      sym (ap (λ (b : Bool). cond b (cond (eqb (get_or l at 0) j) (Some at) other) other) (lt-ltb at count q) ∙ ap (λ (b : Bool). cond b (Some at) other) (ne_eqb (get_or l at 0) j f))
 
   there_past : count ≤ at → other ≡ there l count j at other
-  there_past q = sym (ap (λ (b : Bool). cond b (cond (eqb (get_or l at 0) j) at other) other) (le-ltb at count q))
+  there_past q = sym (ap (λ (b : Bool). cond b (cond (eqb (get_or l at 0) j) (Some at) other) other) (le-ltb at count q))
+
+-- what is found nowhere
+pub none_found : (count : ℕ) (l : List ℕ) (j : ℕ) → Finds count l j count → (i : ℕ) → i < count → get_or l i 0 ≡ j → ⊥
+none_found count l j f = ⊎_elim (λ (q : (count < count) × (get_or l count 0 ≡ j)). absurd (omega arith)) (λ (q : (count ≡ count) × ((i : ℕ) → i < count → get_or l i 0 ≡ j → ⊥)). q.1) f
 
 -- at most one number is left: it is the job's, or another, or there is none
 module _ {l : List ℕ} {j count low size : ℕ} (t : Turned l j count low size) (one : size ≤ 1) where
-  ends : there l count j low count ≡ there l count j (halved count l j 0 count) count
-  ends = ap (λ (at : ℕ). there l count j at count) (sym (halved_small t.left l j low size one) ∙ t.same)
+  ends : there l count j low None ≡ there l count j (halved count l j 0 count) None
+  ends = ap (λ (at : ℕ). there l count j at None) (sym (halved_small t.left l j low size one) ∙ t.same)
 
-  pub ends_own : low < count → get_or l low 0 ≡ j → low ≡ there l count j (halved count l j 0 count) count
-  ends_own q e = there_own l count j low count q e ∙ ends
+  pub ends_own : low < count → get_or l low 0 ≡ j → Some low ≡ there l count j (halved count l j 0 count) None
+  ends_own q e = there_own l count j low None q e ∙ ends
 
-  pub ends_other : low < count → (get_or l low 0 ≡ j → ⊥) → count ≡ there l count j (halved count l j 0 count) count
-  ends_other q f = there_other l count j low count q f ∙ ends
+  pub ends_other : low < count → (get_or l low 0 ≡ j → ⊥) → None ≡ there l count j (halved count l j 0 count) None
+  ends_other q f = there_other l count j low None q f ∙ ends
 
-  pub ends_past : count ≤ low → count ≡ there l count j (halved count l j 0 count) count
-  ends_past q = there_past l count j low count q ∙ ends
+  pub ends_past : count ≤ low → None ≡ there l count j (halved count l j 0 count) None
+  ends_past q = there_past l count j low None q ∙ ends
 
 -- ---- the guess
 
 module _ (l : List ℕ) (count j : ℕ) where
-  abbrev halves : ℕ
-  halves = there l count j (halved count l j 0 count) count
+  abbrev halves : Option ℕ
+  halves = there l count j (halved count l j 0 count) None
 
   abbrev guess : ℕ
   guess = j - get_or l 0 0
@@ -83,11 +90,11 @@ module _ (l : List ℕ) (count j : ℕ) where
   guessed q = sym (ap (λ (b : Bool). cond b (there l count j guess halves) halves) (le-leb (get_or l 0 0) j q))
 
   -- it is right
-  pub searched_own : get_or l 0 0 ≤ j → guess < count → get_or l guess 0 ≡ j → guess ≡ searched l count j
+  pub searched_own : get_or l 0 0 ≤ j → guess < count → get_or l guess 0 ≡ j → Some guess ≡ searched l count j
   searched_own q p e = there_own l count j guess halves p e ∙ guessed q
 
   -- there is none; it is past the table; or it is another: then by halves
-  module _ {r : ℕ} (e : r ≡ there l count j (halved count l j 0 count) count) where
+  module _ {r : Option ℕ} (e : r ≡ there l count j (halved count l j 0 count) None) where
     pub searched_low : j < get_or l 0 0 → r ≡ searched l count j
     searched_low q = e ∙ sym (ap (λ (b : Bool). cond b (there l count j guess halves) halves) (lt-leb (get_or l 0 0) j q))
 

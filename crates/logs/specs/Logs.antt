@@ -1,43 +1,41 @@
--- What the contracts of the reading say: how a job is looked for, and what reading a log leaves.
+-- What reading a log leaves.
 -- Assumes nothing.
-use Rattle.std.specs.Prelude.{◌≡◌, cond, List, ℕ, zero, suc, ◌+◌, ◌-◌, ◌/◌, leb, ltb, eqb, length, get_or, replicate}
+use Rattle.std.specs.Prelude.{◌≡◌, List, ℕ, length, replicate, Result, Ok, Err}
 use Rattle.history.specs.Events.{History}
 use Rattle.history.specs.Replies.{Request}
 use Rattle.verdicts.specs.Logs.{faulty, events, read_log}
-use Rattle.tallies.specs.Jobs.{Taken}
-use Rattle.logs.specs.declared.Read.{Read}
-use Rattle.logs.specs.declared.Read.TheVariants.{Fault, Jobs}
+use Rattle.tallies.specs.Jobs.{Taken, Takes}
+use Rattle.logs.specs.Faults.{code_of, place_of}
+use Rattle.logs.specs.declared.Fault.{Fault}
+use Rattle.logs.specs.declared.table.Table.{Table}
 
--- ---- the search
+-- ---- the table
 
--- Where the numbers rise it is what `Finds` says. These say which answer is given where they do not, so that there is one.
+-- so many records are read, as the events h, and the table tells of them
+abbrev pub Holds : History → ℕ → Table → Type 0
+Holds h n t = Taken h n t.numbers t.states t.told t.count
 
--- by halves, among so many numbers from the place low on, in at most n turns: up where the number in the middle is at most the job's
-abbrev pub halved : ℕ → List ℕ → ℕ → ℕ → ℕ → ℕ
-halved zero l j low size = low
-halved (suc n) l j low size = halved n l j (low + cond (leb (get_or l (low + size / 2) 0) j) (size / 2) 0) (size - size / 2)
+abbrev pub IsBlank : Table → Type 0
+IsBlank t = (t.numbers ≡ replicate 512 0) × (t.states ≡ replicate 512 0) × (t.told ≡ replicate 4096 0) × (t.count ≡ 0)
 
--- a place among the first so many where the job stands there, and else another
-abbrev pub there : List ℕ → ℕ → ℕ → ℕ → ℕ → ℕ
-there l count j at other = cond (ltb at count) (cond (eqb (get_or l at 0) j) at other) other
-
--- the difference to the first number, and else by halves
-abbrev pub searched : List ℕ → ℕ → ℕ → ℕ
-searched l count j =
-    let halves = there l count j (halved count l j 0 count) count in
-    cond (leb (get_or l 0 0) j) (there l count j (j - get_or l 0 0) halves) halves
-
--- ---- the reading
+-- ---- a record
 
 abbrev pub request : ℕ → ℕ → ℕ → ℕ → Request
 request k b c j = record { kind = k; byte1 = b; cell = c; job = j }
 
--- the log is faulty, or the lists tell of its events
-abbrev pub Reads : List ℕ → Read → List ℕ → List ℕ → List ℕ → Type 0
-Reads bytes (Fault c p) numbers states told = read_log bytes ≡ faulty c p
-Reads bytes (Jobs n) numbers states told = (h : History) × (read_log bytes ≡ events h) × Taken h (length h) numbers states told n
+-- its fault, at its place, or the table tells of one event more
+abbrev pub Took : History → ℕ → Request → Result (Unit {0}) Fault → Table → Type 0
+Took h n r (Err e) t = Takes h n r (code_of e) t.numbers t.states t.told t.count × (place_of e ≡ n)
+Took h n r (Ok u) t = Takes h n r 0 t.numbers t.states t.told t.count
 
--- and of a faulty log the lists are blank
-abbrev pub Cleared : Read → List ℕ → List ℕ → List ℕ → Type 0
-Cleared (Fault c p) numbers states told = (numbers ≡ replicate 512 0) × (states ≡ replicate 512 0) × (told ≡ replicate 4096 0)
-Cleared (Jobs n) numbers states told = Unit {0}
+-- ---- the reading
+
+-- the log is faulty, or the table tells of its events
+abbrev pub Reads : List ℕ → Result (Unit {0}) Fault → Table → Type 0
+Reads bytes (Err e) t = read_log bytes ≡ faulty (code_of e) (place_of e)
+Reads bytes (Ok u) t = (h : History) × (read_log bytes ≡ events h) × Holds h (length h) t
+
+-- and of a faulty log the table is blank
+abbrev pub Cleared : Result (Unit {0}) Fault → Table → Type 0
+Cleared (Err e) t = IsBlank t
+Cleared (Ok u) t = Unit {0}

@@ -1,15 +1,57 @@
 // The reading of a log into a table of its jobs, and the search for a job in it.
 #![tactic(auto)]
 
-ghost use Rattle.std.specs.Prelude.{◌≡◌, cond, List, ℕ, ◌≤◌, ◌<◌, leb, replicate};
+ghost use Rattle.std.specs.Prelude.{◌≡◌, cond, ℕ, ◌≤◌, ◌<◌, leb};
 ghost use Rattle.history.specs.Events.{History, Kind};
 ghost use Rattle.verdicts.specs.Logs.{kind_number};
-ghost use Rattle.tallies.specs.Jobs.{Padded, Rises, Finds, first_row, Taken, Takes};
-ghost use Rattle.logs.specs.Logs.{request, halved, there, searched, Reads, Cleared};
+ghost use Rattle.tallies.specs.Jobs.{Rises, first_row, Taken};
+ghost use Rattle.logs.specs.Faults.{code_of, place_of};
+ghost use Rattle.logs.specs.Search.{halved, there, searched, Found};
+ghost use Rattle.logs.specs.Logs.{request, Holds, Took, IsBlank, Reads, Cleared};
 
-use reader::{Next, Record};
+use codes::Told;
+use reader::{Reader, Record};
+
+mod table;
+
+pub use table::{ABANDONED, ENDED, OPEN, Table, WRITTEN};
+
+// ---- faults
+
+// Why a log is refused: its length, or a record, with its place: its form, its turn, or one job too many.
+#[derive(Clone, Copy, PartialEq, Eq)]
+pub enum Fault {
+    Length,
+    Form(usize),
+    Turn(usize),
+    TooMany(usize),
+}
+
+impl Told for Fault {
+    ghost number = { code_of };
+
+    ghost place_of = { place_of };
+
+    fn code(self) -> u32 {
+        match self {
+            Fault::Length => 11,
+            Fault::Form(_) => 12,
+            Fault::Turn(_) => 13,
+            Fault::TooMany(_) => 14,
+        }
+    }
+
+    fn place(self) -> usize {
+        match self {
+            Fault::Length => 0,
+            Fault::Form(place) | Fault::Turn(place) | Fault::TooMany(place) => place,
+        }
+    }
+}
 
 // ---- the jobs of a log
+
+// Here numbers and count stand side by side, and no slice: `searched` and `there` are said of both, and `find_job` takes any count.
 
 // How far a search goes up: `half` where the number is at most the job's, and else not at all. The quotient is 1 or 0: of a test the compiler makes a branch,
 // which is mispredicted every other time.
@@ -19,11 +61,11 @@ fn go_up(half: usize, number: u32, job: u32) -> usize
     half * ((4294967296 + job as usize - number as usize) / 4294967296)
 }
 
-// Where the job stands among the first `count` numbers, which rise; `count` where it does not.
-fn halve(numbers: &[u32; 512], count: usize, job: u32) -> usize
+// Where the job stands among the first `count` numbers, which rise. Of 512 numbers std's `binary_search`, whose tests are branches, takes two and a half times as long;
+// and it does not say which answer is given where numbers do not rise, so that there would not be one (`one_find_job`).
+fn halve(numbers: &[u32; 512], count: usize, job: u32) -> Option<usize>
     requires { count ≤ 512 }
-    ensures { (result ≤ count) × (Rises count numbers.now → Finds count numbers.now job result)
-        × (result ≡ there numbers.now count job (halved count numbers.now job 0 count) count) }
+    ensures { Found numbers.now count job result × (result ≡ there numbers.now count job (halved count numbers.now job 0 count) None) }
 {
     let all = &numbers[..];
     let mut low: usize = 0;
@@ -33,309 +75,196 @@ fn halve(numbers: &[u32; 512], count: usize, job: u32) -> usize
         low += go_up(half, all[low + half], job);
         size -= half;
     }
-    if low < count {
-        if all[low] == job {
-            return low;
-        }
+    if low < count && all[low] == job {
+        return Some(low);
     }
-    count
+    None
 }
 
 // The same. The numbers of a log that starts at a fresh state stand side by side, and then the place is a difference.
-fn find(numbers: &[u32; 512], count: usize, job: u32) -> usize
+fn find(numbers: &[u32; 512], count: usize, job: u32) -> Option<usize>
     requires { count ≤ 512 }
-    ensures { (result ≤ count) × (Rises count numbers.now → Finds count numbers.now job result) × (result ≡ searched numbers.now count job) }
+    ensures { Found numbers.now count job result × (result ≡ searched numbers.now count job) }
 {
     let all = &numbers[..];
     let first = all[0];
     if first <= job {
         let guess = (job - first) as usize;
-        if guess < count {
-            if all[guess] == job {
-                return guess;
-            }
+        if guess < count && all[guess] == job {
+            return Some(guess);
         }
     }
     halve(numbers, count, job)
 }
 
 // The same of any table and count. A table has 512 numbers: of more nothing is found. What is found among numbers that do not rise is of no use, but it is one place (`searched`).
-pub fn find_job(numbers: &[u32; 512], count: usize, job: u32) -> usize
-    ensures { (result ≤ count) × (count ≤ 512 → Rises count numbers.now → Finds count numbers.now job result)
-        × (result ≡ cond (leb count 512) (searched numbers.now count job) count) }
+pub fn find_job(numbers: &[u32; 512], count: usize, job: u32) -> Option<usize>
+    ensures { (count ≤ 512 → Found numbers.now count job result) × (result ≡ cond (leb count 512) (searched numbers.now count job) None) }
 {
     if 512 < count {
-        return count;
+        return None;
     }
     find(numbers, count, job)
 }
 
+// ---- the records
+
+// The kinds of a record. A publish stands in a log as its two records, so that there is no 6. An enum would be made of the byte by one match, and taken apart by another.
+const OPENS: u8 = 1;
+
+const READS: u8 = 2;
+
+const WRITES: u8 = 3;
+
+const ENDS: u8 = 4;
+
+const ABANDONS: u8 = 5;
+
+const ADDS: u8 = 7;
+
 // An open, a read, a write, an add or an end is told as its job's place times 770, plus its row, plus 1; an abandon as 0. The rows are the reads of cells 0 to 255, then
-// the writes of those, then the adds, then all opens (768) and all ends (769).
-
-// What an open leaves: its fault, and how many jobs there are then.
-#[derive(Clone, Copy)]
-struct Took {
-    code: u32,
-    count: usize,
-}
-
-fn take_open(
-    job: u32,
-    cell: u32,
-    numbers: &mut [u32; 512],
-    states: &mut [u8; 512],
-    told: &mut [u32; 4096],
-    count: usize,
-    place: usize,
-) -> Took
-    requires { (count ≤ 512) × (place < 4096) }
-    ensures { (result.count ≤ 512) × ((h : History) → Taken h place numbers.old states.old told.old count
-        → Takes h place (request 1 0 cell job) result.code numbers.new states.new told.new result.count) }
-{
-    let all = &mut numbers[..];
-    let stand = &mut states[..];
-    let steps = &mut told[..];
-    if cell != 0 {
-        return Took {
-            code: 12,
-            count: count,
-        };
-    }
-    if count != 0 {
-        if job <= all[count - 1] {
-            return Took {
-                code: 13,
-                count: count,
-            };
+// the writes of those, then the adds, then all opens (768) and all ends (769). A record's place is below 4,096, the room of `told`, as the length of a log is tested first; a type for it would be made in `read_records` and
+// taken apart in each of the three that put it down.
+// The reads, ends and abandons of a job begin with the same two tests, and differ in what they do then.
+impl Table {
+    // No jobs.
+    pub fn blank() -> Table
+        ensures { IsBlank result }
+    {
+        Table {
+            numbers: [0; 512],
+            states: [0; 512],
+            told: [0; 4096],
+            count: 0,
         }
     }
-    if 512 <= count {
-        return Took {
-            code: 14,
-            count: count,
-        };
-    }
-    all[count] = job;
-    stand[count] = 1;
-    steps[place] = (count as u32) * 770 + 769;
-    Took {
-        code: 0,
-        count: count + 1,
-    }
-}
 
-// A read, a write or an add, by the first of the rows of its kind: its fault.
-fn take_step(
-    first: u32,
-    job: u32,
-    cell: u32,
-    numbers: &[u32; 512],
-    states: &mut [u8; 512],
-    told: &mut [u32; 4096],
-    count: usize,
-    place: usize,
-) -> u32
-    requires { (first ≤ 512) × (count ≤ 512) × (place < 4096) }
-    ensures { (h : History) (k : Kind) → first ≡ first_row k → Taken h place numbers.now states.old told.old count
-        → Takes h place (request (kind_number k) 0 cell job) result numbers.now states.new told.new count }
-{
-    let stand = &mut states[..];
-    let steps = &mut told[..];
-    if 256 <= cell {
-        return 12;
+    // Where the job stands in the table.
+    pub fn find(&self, job: u32) -> Option<usize>
+        ensures { Found self.now.numbers self.now.count job result × (result ≡ searched self.now.numbers self.now.count job) }
+    {
+        find(&self.numbers, self.count, job)
     }
-    let i = find(numbers, count, job);
-    if i == count {
-        return 13;
-    }
-    if 2 < stand[i] {
-        return 13;
-    }
-    if first != 0 {
-        stand[i] = 2;
-    }
-    steps[place] = (i as u32) * 770 + first + cell + 1;
-    0
-}
 
-// An end: its fault.
-fn take_end(
-    job: u32,
-    cell: u32,
-    numbers: &[u32; 512],
-    states: &mut [u8; 512],
-    told: &mut [u32; 4096],
-    count: usize,
-    place: usize,
-) -> u32
-    requires { (count ≤ 512) × (place < 4096) }
-    ensures { (h : History) → Taken h place numbers.now states.old told.old count
-        → Takes h place (request 4 0 cell job) result numbers.now states.new told.new count }
-{
-    let stand = &mut states[..];
-    let steps = &mut told[..];
-    if cell != 0 {
-        return 12;
-    }
-    let i = find(numbers, count, job);
-    if i == count {
-        return 13;
-    }
-    if 2 < stand[i] {
-        return 13;
-    }
-    stand[i] = 3;
-    steps[place] = (i as u32) * 770 + 770;
-    0
-}
-
-// An abandon: its fault.
-fn take_abandon(
-    job: u32,
-    cell: u32,
-    numbers: &[u32; 512],
-    states: &mut [u8; 512],
-    count: usize,
-) -> u32
-    requires { count ≤ 512 }
-    ensures { (h : History) (n : ℕ) (told : List ℕ) → Taken h n numbers.now states.old told count
-        → Takes h n (request 5 0 cell job) result numbers.now states.new told count }
-{
-    let stand = &mut states[..];
-    if cell != 0 {
-        return 12;
-    }
-    let i = find(numbers, count, job);
-    if i == count {
-        return 13;
-    }
-    if stand[i] != 1 {
-        return 13;
-    }
-    stand[i] = 4;
-    0
-}
-
-// A record: its fault, and how many jobs there are then.
-fn take_record(
-    r: Record,
-    numbers: &mut [u32; 512],
-    states: &mut [u8; 512],
-    told: &mut [u32; 4096],
-    count: usize,
-    place: usize,
-) -> Took
-    requires { (count ≤ 512) × (place < 4096) }
-    ensures { (result.count ≤ 512) × ((h : History) → Taken h place numbers.old states.old told.old count
-        → Takes h place (request r.kind r.byte1 r.cell r.job) result.code numbers.new states.new told.new result.count) }
-{
-    if r.byte1 != 0 {
-        return Took {
-            code: 12,
-            count: count,
-        };
-    }
-    let kind = r.kind;
-    let job = r.job;
-    let cell = r.cell;
-    match kind {
-        1 => take_open(job, cell, numbers, states, told, count, place),
-        2 => Took {
-            code: take_step(0, job, cell, numbers, states, told, count, place),
-            count: count,
-        },
-        3 => Took {
-            code: take_step(256, job, cell, numbers, states, told, count, place),
-            count: count,
-        },
-        4 => Took {
-            code: take_end(job, cell, numbers, states, told, count, place),
-            count: count,
-        },
-        5 => Took {
-            code: take_abandon(job, cell, numbers, states, count),
-            count: count,
-        },
-        7 => Took {
-            code: take_step(512, job, cell, numbers, states, told, count, place),
-            count: count,
-        },
-        _ => Took {
-            code: 12,
-            count: count,
-        },
-    }
-}
-
-// What reading a log gives: the lowest fault, its code and place, or the count of jobs.
-#[derive(Clone, Copy)]
-pub enum Read {
-    Fault(u32, usize),
-    Jobs(usize),
-}
-
-// Every entry becomes 0.
-fn blank(numbers: &mut [u32; 512], states: &mut [u8; 512], told: &mut [u32; 4096])
-    ensures { (numbers.new ≡ replicate 512 0) × (states.new ≡ replicate 512 0) × (told.new ≡ replicate 4096 0) }
-{
-    *numbers = [0; 512];
-    *states = [0; 512];
-    *told = [0; 4096];
-}
-
-// The records of a log, into lists that are blank.
-fn read_records(
-    log: &[u8],
-    numbers: &mut [u32; 512],
-    states: &mut [u8; 512],
-    told: &mut [u32; 4096],
-) -> Read
-    ensures { Padded numbers.old 512 0 → Padded states.old 512 0 → Padded told.old 4096 0
-        → Reads log.now result numbers.new states.new told.new }
-{
-    if log.len() % 8 != 0 {
-        return Read::Fault(11, 0);
-    }
-    if 32768 < log.len() {
-        return Read::Fault(11, 0);
-    }
-    let n = log.len() / 8;
-    let mut count: usize = 0;
-    let mut i: usize = 0;
-    while i < n {
-        match reader::next_record(log, i) {
-            Next::Record(r) => {
-                let t = take_record(r, numbers, states, told, count, i);
-                if t.code != 0 {
-                    return Read::Fault(t.code, i);
-                }
-                count = t.count;
-            }
-            Next::End => {
-                return Read::Jobs(count);
-            }
+    fn take_open(&mut self, place: usize, job: u32, cell: u32) -> Result<(), Fault>
+        requires { place < 4096 }
+        ensures { (h : History) → Holds h place self.old → Took h place (request 1 0 cell job) result self.new }
+    {
+        let count = self.count;
+        let all = &mut self.numbers[..];
+        if cell != 0 {
+            return Err(Fault::Form(place));
         }
-        i += 1;
+        if count != 0 && job <= all[count - 1] {
+            return Err(Fault::Turn(place));
+        }
+        if 512 <= count {
+            return Err(Fault::TooMany(place));
+        }
+        all[count] = job;
+        let stand = &mut self.states[..];
+        stand[count] = OPEN;
+        let steps = &mut self.told[..];
+        steps[place] = (count as u32) * 770 + 769;
+        self.count = count + 1;
+        Ok(())
     }
-    Read::Jobs(count)
+
+    // A read, a write or an add, by the first of the rows of its kind: what is told has that number in it, and an enum would be made in `take_record` to be turned into it here.
+    fn take_step(&mut self, place: usize, first: u32, job: u32, cell: u32) -> Result<(), Fault>
+        requires { (first ≤ 512) × (place < 4096) }
+        ensures { (h : History) (k : Kind) → first ≡ first_row k → Holds h place self.old → Took h place (request (kind_number k) 0 cell job) result self.new }
+    {
+        if 256 <= cell {
+            return Err(Fault::Form(place));
+        }
+        let i = self.find(job).ok_or(Fault::Turn(place))?;
+        let stand = &mut self.states[..];
+        if WRITTEN < stand[i] {
+            return Err(Fault::Turn(place));
+        }
+        if first != 0 {
+            stand[i] = WRITTEN;
+        }
+        let steps = &mut self.told[..];
+        steps[place] = (i as u32) * 770 + first + cell + 1;
+        Ok(())
+    }
+
+    fn take_end(&mut self, place: usize, job: u32, cell: u32) -> Result<(), Fault>
+        requires { place < 4096 }
+        ensures { (h : History) → Holds h place self.old → Took h place (request 4 0 cell job) result self.new }
+    {
+        if cell != 0 {
+            return Err(Fault::Form(place));
+        }
+        let i = self.find(job).ok_or(Fault::Turn(place))?;
+        let stand = &mut self.states[..];
+        if WRITTEN < stand[i] {
+            return Err(Fault::Turn(place));
+        }
+        stand[i] = ENDED;
+        let steps = &mut self.told[..];
+        steps[place] = (i as u32) * 770 + 770;
+        Ok(())
+    }
+
+    fn take_abandon(&mut self, place: usize, job: u32, cell: u32) -> Result<(), Fault>
+        ensures { (h : History) → Holds h place self.old → Took h place (request 5 0 cell job) result self.new }
+    {
+        if cell != 0 {
+            return Err(Fault::Form(place));
+        }
+        let i = self.find(job).ok_or(Fault::Turn(place))?;
+        let stand = &mut self.states[..];
+        if stand[i] != OPEN {
+            return Err(Fault::Turn(place));
+        }
+        stand[i] = ABANDONED;
+        Ok(())
+    }
+
+    fn take_record(&mut self, place: usize, r: Record) -> Result<(), Fault>
+        requires { place < 4096 }
+        ensures { (h : History) → Holds h place self.old → Took h place (request r.kind r.byte1 r.cell r.job) result self.new }
+    {
+        if r.byte1 != 0 {
+            return Err(Fault::Form(place));
+        }
+        let kind = r.kind;
+        match kind {
+            OPENS => self.take_open(place, r.job, r.cell),
+            READS => self.take_step(place, 0, r.job, r.cell),
+            WRITES => self.take_step(place, 256, r.job, r.cell),
+            ENDS => self.take_end(place, r.job, r.cell),
+            ABANDONS => self.take_abandon(place, r.job, r.cell),
+            ADDS => self.take_step(place, 512, r.job, r.cell),
+            _ => Err(Fault::Form(place)),
+        }
+    }
 }
 
-// A whole log, whatever the lists held: its jobs by number and state, and its steps told (`Taken`); past those, and where it is faulty, every entry is 0.
-pub fn read_jobs(
-    log: &[u8],
-    numbers: &mut [u32; 512],
-    states: &mut [u8; 512],
-    told: &mut [u32; 4096],
-) -> Read
-    ensures { Reads log.now result numbers.new states.new told.new × Cleared result numbers.new states.new told.new }
+// The records of a log, into a table that is blank.
+fn read_records(log: &[u8], table: &mut Table) -> Result<(), Fault>
+    ensures { IsBlank table.old → Reads log.now result table.new }
 {
-    blank(numbers, states, told);
-    match read_records(log, numbers, states, told) {
-        Read::Fault(code, place) => {
-            blank(numbers, states, told);
-            Read::Fault(code, place)
-        }
-        Read::Jobs(count) => Read::Jobs(count),
+    if log.len() % 8 != 0 || 32768 < log.len() {
+        return Err(Fault::Length);
     }
+    for (place, r) in Reader::new(log).enumerate() {
+        table.take_record(place, r)?;
+    }
+    Ok(())
+}
+
+// A whole log, whatever the table held: its jobs by number and state, and its steps told (`Taken`). Where it is faulty the table is blank.
+pub fn read_jobs(log: &[u8], table: &mut Table) -> Result<(), Fault>
+    ensures { Reads log.now result table.new × Cleared result table.new }
+{
+    *table = Table::blank();
+    let outcome = read_records(log, table);
+    if outcome.is_err() {
+        *table = Table::blank();
+    }
+    outcome
 }

@@ -1,11 +1,11 @@
--- What the proofs of the network's requests need beyond the contracts of the functions that they call: the codes by what each test comes to, and a law for each way out of a
--- request, from the branches taken and what the callees ensure to what the contract says.
+-- What the proofs of the network's requests need beyond the contracts of the functions that they call: three stations in a list, the codes by what each test comes to, and a law for
+-- each way out of a request, from the branches taken and what the callees ensure to what the contract says.
 -- Assumes nothing.
 use mathlib.Core.Path.{◌≡◌, refl, sym, ap, ap₂, ◌∙◌, subst}
 use mathlib.Core.Logic.{⊎_elim}
 use mathlib.Core.Bool.{Bool, true, false, not, ◌||◌, cond}
 use mathlib.Core.Option.{Option, none, some}
-use mathlib.Core.List.{List}
+use mathlib.Core.List.{List, [], ◌∷◌}
 use Prim.Native.Nat.{ℕ, ◌+◌, ◌%◌, ◌^◌, ◌≤◌, ◌<◌}
 use native.Mathlib.Nat.{mod-eq_of_lt}
 use native.Mathlib.Omega.{arith}
@@ -13,6 +13,8 @@ use lib.Bits.{bit_or}
 use lib.Dec.{T, lit<, leb, eqb}
 use lib.ListN.{length, length-set, set, get_or}
 use borrow.Author.Tests.{le-leb, lt-leb, eq-eqb, ne_eqb}
+use Rattle.std.specs.Prelude.{Result, Ok, Err, None}
+use Rattle.std.proofs.Common.{get_or-set_same, get_or-set_other}
 use Rattle.graph.specs.Decide.{eq_test, answer}
 use Rattle.marks.specs.Marks.{bit, mask_of, tab}
 use Rattle.marks.specs.MarkLaws.{bit_zero}
@@ -24,16 +26,47 @@ use Rattle.held.specs.Held.{Held, is_some, at_slot, open_at, open_slots, number_
 use Rattle.rows.specs.Rows.{links_of, sets_only, Leaves, leads_to, touches, put, gained, marked_own}
 use Rattle.rows.proofs.RowLaws.{gained_by, left_by}
 use Rattle.slots.specs.Lent.{numbered}
-use Rattle.slots.specs.Finds.{holds, circled}
+use Rattle.slots.specs.Finds.{slot_with, circled}
 use Rattle.slots.specs.declared.JobNumber.{JobNumber}
-use Rattle.slots.specs.declared.Answer.{Answer}
-use Rattle.slots.specs.declared.Answer.TheVariants.{Granted, NoCell, NotOpen, HasWritten, Circle}
-use Rattle.slots.specs.declared.Moved.{Moved}
+use Rattle.slots.specs.declared.Refusal.{Refusal}
+use Rattle.slots.specs.declared.Refusal.TheVariants.{NoCell, NotOpen, HasWritten, Circle}
 use Rattle.slots.proofs.CircleLaws.{circle_law}
-use Rattle.slots.proofs.RequestLaws.{slot, Found, slot_none}
-use Rattle.stations.specs.Stations.{Station, station_0, station_1, station_2, station_of, Network, part, state, master, view, joined_leads, joined, asked, network_facts, all_moved, one_moved, network_stepped, network_left, network_ended, network_abandoned, with_slot, network_moved}
+use Rattle.slots.proofs.LowestLaws.{Found, slot_none}
+use Rattle.slots.proofs.RequestLaws.{refused}
+use Rattle.stations.specs.Stations.{Station, station_0, station_1, station_2, station_of, Part, Network, part, state, master, view, joined_leads, joined, asked, network_facts, all_moved, one_moved, network_stepped, network_left, network_ended, network_abandoned, with_slot, network_moved}
 use Rattle.stations.proofs.StationLaws.{stepped_master}
-use Rattle.network.specs.Nets.{net, joined_rows, StepsAt, StepsThere, network_code, Does}
+use Rattle.network.specs.Nets.{number, number_of, at_station, part_at, net, net_of, joined_rows, any_altered, StepsAt, StepsThere, network_code, Does}
+use Rattle.network.specs.Nets as nets
+use Rattle.network.specs.declared.Station as Kept
+use Rattle.network.specs.declared.Network as Whole
+
+-- ---- three stations
+
+-- what holds of any three holds of a list of that length
+pub of_three : (P : List Kept.Station → Type 0) → ((a b c : Kept.Station) → P (a ∷ b ∷ c ∷ [])) → (l : List Kept.Station) → length l ≡ 3 → P l
+of_three P f [] e = absurd (omega arith)
+of_three P f (a ∷ []) e = absurd (omega arith)
+of_three P f (a ∷ b ∷ []) e = absurd (omega arith)
+of_three P f (a ∷ b ∷ c ∷ []) e = f a b c
+of_three P f (a ∷ b ∷ c ∷ d ∷ l) e = absurd (omega arith)
+
+-- other leads and sets at a station
+abbrev pub put_part : Network → Station → List ℕ → List ℕ → Network
+put_part n station_0 l w = record { next = n.next; free = n.free; numbers = n.numbers; ports = n.ports; part_0 = record { leads = l; sets = w }; part_1 = n.part_1; part_2 = n.part_2 }
+put_part n station_1 l w = record { next = n.next; free = n.free; numbers = n.numbers; ports = n.ports; part_0 = n.part_0; part_1 = record { leads = l; sets = w }; part_2 = n.part_2 }
+put_part n station_2 l w = record { next = n.next; free = n.free; numbers = n.numbers; ports = n.ports; part_0 = n.part_0; part_1 = n.part_1; part_2 = record { leads = l; sets = w } }
+
+-- the station of a number is that part of the network, and one that is stored in its place is put there
+kept_part : (u : Station) (next free : ℕ) (numbers ports : List ℕ) (l : List Kept.Station) → part_at l (number u) ≡ part (net next free numbers ports l) u
+kept_part station_0 next free numbers ports l = refl
+kept_part station_1 next free numbers ports l = refl
+kept_part station_2 next free numbers ports l = refl
+
+stored_part : (u : Station) (next free : ℕ) (numbers ports : List ℕ) (a : Kept.Station) (l : List Kept.Station) → length l ≡ 3
+    → net next free numbers ports (set l (number u) a) ≡ put_part (net next free numbers ports l) u a.leads a.sets
+stored_part station_0 next free numbers ports x = of_three (λ l. net next free numbers ports (set l 0 x) ≡ put_part (net next free numbers ports l) station_0 x.leads x.sets) (λ a b c. refl)
+stored_part station_1 next free numbers ports x = of_three (λ l. net next free numbers ports (set l 1 x) ≡ put_part (net next free numbers ports l) station_1 x.leads x.sets) (λ a b c. refl)
+stored_part station_2 next free numbers ports x = of_three (λ l. net next free numbers ports (set l 2 x) ≡ put_part (net next free numbers ports l) station_2 x.leads x.sets) (λ a b c. refl)
 
 -- ---- a list that is filled from the start
 
@@ -57,27 +90,14 @@ filled_end f d q = tab_of d.long (λ p r. d.rows p (omega arith))
 
 -- ---- replies and networks by a code
 
--- what `told` ensures
-abbrev pub Told : ℕ → ℕ → Answer → Moved → Type 0
-Told next free a r = (r.next ≡ next) × (r.free ≡ free) × (r.answer ≡ a)
-
 abbrev pub reply_at : Network → Want → ℕ → ℕ → Reply
 reply_at n w j x = record { code = x; job = cond (eqb x 0) (job_of n.next w j) 0 }
 
 abbrev pub net_at : Network → Want → ℕ → ℕ → ℕ → Network
 net_at n w j c x = cond (eqb x 0) (network_moved n w j c) n
 
--- with another next number and other free slots
-abbrev pub front : Network → ℕ → ℕ → Network
-front n next free = record { next = next; free = free; numbers = n.numbers; ports = n.ports; part_0 = n.part_0; part_1 = n.part_1; part_2 = n.part_2 }
-
-pub does_by : {n m : Network} {w : Want} {j c : ℕ} {r : Moved} (x : ℕ) → network_code n w j c ≡ x → numbered r.answer ≡ reply_at n w j x → m ≡ net_at n w j c x → Does n w j c r m
+pub does_by : {n m : Network} {w : Want} {j c : ℕ} {r : Result JobNumber Refusal} (x : ℕ) → network_code n w j c ≡ x → numbered r ≡ reply_at n w j x → m ≡ net_at n w j c x → Does n w j c r m
 does_by {n} {w = w} {j = j} {c = c} x e a l = record { answered = a ∙ ap (reply_at n w j) (sym e); left = l ∙ ap (net_at n w j c) (sym e) }
-
--- m is what the arrays make before the answer is told
-told_by : {n : Network} (m : Network) {w : Want} {j c : ℕ} {r : Moved} {a : Answer} (x : ℕ) → network_code n w j c ≡ x → numbered a ≡ reply_at n w j x → m ≡ net_at n w j c x
-    → Told m.next m.free a r → Does n w j c r (front m r.next r.free)
-told_by m x e a l f = does_by x e (ap numbered f.2 ∙ a) ((λ i. front m (f.0 i) (f.1 i)) ∙ l)
 
 -- ---- the codes, by what the tests come to
 
@@ -104,19 +124,19 @@ module _ (n : Network) where
 
 -- ---- refusals that need no slot
 
-module _ {n : Network} {j c : ℕ} {r : Moved} where
-  pub does_no_cell : {k : Kind} → 256 ≤ c → Told n.next n.free NoCell r → Does n (a_step k) j c r (front n r.next r.free)
-  does_no_cell {k} q = told_by n 2 (code_step n k j c (le-leb 256 c q) refl refl) refl refl
+module _ {n : Network} {j c : ℕ} where
+  pub does_no_cell : {k : Kind} → (c < 256 → ⊥) → Does n (a_step k) j c (Err NoCell) n
+  does_no_cell {k} q = let p : 256 ≤ c = omega arith in does_by 2 (code_step n k j c (le-leb 256 c p) refl refl) refl refl
 
-  module _ {s : ℕ} (e : s ≡ slot (mask_of 32 (holds n.free n.numbers j))) (z : 32 ≤ s) where
-    pub does_step_not_open : {k : Kind} → c < 256 → Told n.next n.free NotOpen r → Does n (a_step k) j c r (front n r.next r.free)
-    does_step_not_open {k} q = told_by n 3 (code_step n k j c (lt-leb 256 c q) (slot_none (master n) j e z) refl) refl refl
+  module _ (e : slot_with n.free n.numbers j ≡ None) where
+    pub does_step_not_open : {k : Kind} → c < 256 → Does n (a_step k) j c (Err NotOpen) n
+    does_step_not_open {k} q = does_by 3 (code_step n k j c (lt-leb 256 c q) (slot_none (master n) j e) refl) refl refl
 
-    pub does_end_not_open : Told n.next n.free NotOpen r → Does n an_end j c r (front n r.next r.free)
-    does_end_not_open = told_by n 3 (code_end n j c (slot_none (master n) j e z)) refl refl
+    pub does_end_not_open : Does n an_end j c (Err NotOpen) n
+    does_end_not_open = does_by 3 (code_end n j c (slot_none (master n) j e)) refl refl
 
-    pub does_abandon_not_open : Told n.next n.free NotOpen r → Does n an_abandon j c r (front n r.next r.free)
-    does_abandon_not_open = told_by n 3 (code_abandon n j c (slot_none (master n) j e z) refl) refl refl
+    pub does_abandon_not_open : Does n an_abandon j c (Err NotOpen) n
+    does_abandon_not_open = does_by 3 (code_abandon n j c (slot_none (master n) j e) refl) refl refl
 
 -- ---- a step at a station
 
@@ -144,23 +164,17 @@ module _ (free : ℕ) (joined sets : List ℕ) (k : Kind) (s c : ℕ) {from : �
 
 -- ---- a step at the station of its cell
 
-pub at_station_0 : {c : ℕ} → c < 85 → station_of c ≡ station_0
+pub number_0 : {c : ℕ} → c ≤ 84 → 0 ≡ number_of c
 unfolding station_of
-at_station_0 {c} q = ap (λ (b : Bool). cond b station_0 (cond (leb c 169) station_1 station_2)) (le-leb c 84 (omega arith))
+number_0 {c} q = ap (λ (b : Bool). number (cond b station_0 (cond (leb c 169) station_1 station_2))) (sym (le-leb c 84 q))
 
-pub at_station_1 : {c : ℕ} → 85 ≤ c → c < 170 → station_of c ≡ station_1
+pub number_1 : {c : ℕ} → 84 < c → c ≤ 169 → 1 ≡ number_of c
 unfolding station_of
-at_station_1 {c} p q = ap₂ (λ (a b : Bool). cond a station_0 (cond b station_1 station_2)) (lt-leb c 84 (omega arith)) (le-leb c 169 (omega arith))
+number_1 {c} p q = ap₂ (λ (a b : Bool). number (cond a station_0 (cond b station_1 station_2))) (sym (lt-leb c 84 p)) (sym (le-leb c 169 q))
 
-pub at_station_2 : {c : ℕ} → 170 ≤ c → station_of c ≡ station_2
+pub number_2 : {c : ℕ} → 169 < c → 2 ≡ number_of c
 unfolding station_of
-at_station_2 {c} q = ap₂ (λ (a b : Bool). cond a station_0 (cond b station_1 station_2)) (lt-leb c 84 (omega arith)) (lt-leb c 169 (omega arith))
-
--- other leads and sets at a station
-abbrev pub put_part : Network → Station → List ℕ → List ℕ → Network
-put_part n station_0 l w = record { next = n.next; free = n.free; numbers = n.numbers; ports = n.ports; part_0 = record { leads = l; sets = w }; part_1 = n.part_1; part_2 = n.part_2 }
-put_part n station_1 l w = record { next = n.next; free = n.free; numbers = n.numbers; ports = n.ports; part_0 = n.part_0; part_1 = record { leads = l; sets = w }; part_2 = n.part_2 }
-put_part n station_2 l w = record { next = n.next; free = n.free; numbers = n.numbers; ports = n.ports; part_0 = n.part_0; part_1 = n.part_1; part_2 = record { leads = l; sets = w } }
+number_2 {c} q = ap₂ (λ (a b : Bool). number (cond a station_0 (cond b station_1 station_2))) (sym (lt-leb c 84 (omega arith))) (sym (lt-leb c 169 q))
 
 put_back : (n : Network) (u : Station) → put_part n u (part n u).leads (part n u).sets ≡ n
 put_back n station_0 = refl
@@ -182,10 +196,10 @@ module _ (n : Network) (k : Kind) (s c : ℕ) where
   put_stepped station_1 = refl
   put_stepped station_2 = refl
 
-  pub there : (u : Station) {joined leads sets : List ℕ} {closed : Bool} → station_of c ≡ u → joined ≡ joined_rows n.part_0.leads n.part_1.leads n.part_2.leads
+  at_its : (u : Station) {joined leads sets : List ℕ} {closed : Bool} → station_of c ≡ u → joined ≡ joined_rows n.part_0.leads n.part_1.leads n.part_2.leads
       → StepsAt n.free joined (part n u).leads (part n u).sets k s c closed leads sets → StepsThere n k s c closed (put_part n u leads sets)
   unfolding network_stepped asked joined_leads leads_at
-  there u {joined} {leads} {sets} {closed} e j d =
+  at_its u {joined} {leads} {sets} {closed} e j d =
       record {
         told =
             d.told ∙ ap (λ (l : List ℕ). chain_back (links_of n.free l (part n u).sets) k s c) j
@@ -198,34 +212,85 @@ module _ (n : Network) (k : Kind) (s c : ℕ) where
       by_closed true = put_back n u
       by_closed false = put_stepped u ∙ ap (λ (v : Station). one_moved (λ h. stepped_at h k s c) v n) (sym e)
 
+-- where the station is found by its number
+pub there : (n : Whole.Network) (k : Kind) (s c : ℕ) {i : ℕ} {t : Kept.Station} {joined : List ℕ} {closed : Bool} → length n.stations ≡ 3 → i ≡ number_of c
+    → joined ≡ joined_rows (nets.leads_at n.stations 0) (nets.leads_at n.stations 1) (nets.leads_at n.stations 2)
+    → StepsAt n.free joined (nets.leads_at n.stations i) (nets.sets_at n.stations i) k s c closed t.leads t.sets
+    → StepsThere (net_of n) k s c closed (net n.next n.free n.numbers n.ports (set n.stations i t))
+there n k s c {i} {t} {joined} {closed} long e j a =
+    let u = station_of c in
+    let at_it = subst (λ (x : Part). StepsAt n.free joined x.leads x.sets k s c closed t.leads t.sets)
+    (ap (part_at n.stations) e ∙ kept_part u n.next n.free n.numbers n.ports n.stations) a in
+    let stored = ap (λ (i : ℕ). net n.next n.free n.numbers n.ports (set n.stations i t)) e ∙ stored_part u n.next n.free n.numbers n.ports t n.stations long in
+    subst (λ (m : Network). StepsThere (net_of n) k s c closed m) (sym stored) (at_its (net_of n) k s c u refl j at_it)
+
 -- ---- a step of a slot that is found
 
-module _ {n m : Network} {k : Kind} (c : ℕ) {s : ℕ} {closed : Bool} (b : JobNumber) (f : Found (master n) b.0 s) (q : c < 256) (d : StepsThere n k s (c % 256) closed m) where
+module _ {n m : Network} {k : Kind} {c x s : ℕ} {closed : Bool} (b : JobNumber) (f : Found (master n) b.0 s) (q : c < 256) (e : x ≡ c) (d : StepsThere n k s x closed m) where
   on_cell : StepsThere n k s c closed m
-  on_cell = subst (λ (x : ℕ). StepsThere n k s x closed m) (mod-eq_of_lt q) d
+  on_cell = subst (λ (x : ℕ). StepsThere n k s x closed m) e d
 
-  step_code : {x : Bool} → closed ≡ x → network_code n (a_step k) b.0 c ≡ cond x 7 0
+  step_code : {y : Bool} → closed ≡ y → network_code n (a_step k) b.0 c ≡ cond y 7 0
   step_code e = code_step n k b.0 c (lt-leb 256 c q) f.first (sym on_cell.told ∙ e)
 
-  step_left : {x : Bool} → closed ≡ x → m ≡ cond x n (network_stepped n k s c)
-  step_left e = on_cell.left ∙ ap (λ (x : Bool). cond x n (network_stepped n k s c)) e
+  step_left : {y : Bool} → closed ≡ y → m ≡ cond y n (network_stepped n k s c)
+  step_left e = on_cell.left ∙ ap (λ (y : Bool). cond y n (network_stepped n k s c)) e
 
-  pub does_circle : {r : Moved} → closed ≡ true → Told m.next m.free Circle r → Does n (a_step k) b.0 c r (front m r.next r.free)
-  does_circle e = told_by m 7 (step_code e) refl (step_left e)
+  pub does_circle : closed ≡ true → Does n (a_step k) b.0 c (Err Circle) m
+  does_circle e = does_by 7 (step_code e) refl (step_left e)
 
-  pub does_step : {r : Moved} → closed ≡ false → Told m.next m.free (Granted b) r → Does n (a_step k) b.0 c r (front m r.next r.free)
+  pub does_step : closed ≡ false → Does n (a_step k) b.0 c (Ok b) m
   unfolding network_moved job_of
-  does_step e = told_by m 0 (step_code e) refl (step_left e ∙ ap (λ (o : Option ℕ). with_slot o (λ s. network_stepped n k s c) n) (sym f.first))
+  does_step e = does_by 0 (step_code e) refl (step_left e ∙ ap (λ (o : Option ℕ). with_slot o (λ s. network_stepped n k s c) n) (sym f.first))
 
 -- ---- a slot that is left
 
-pub left_all : (next free : ℕ) (numbers ports leads0 sets0 leads1 sets1 leads2 sets2 : List ℕ) (from s : ℕ) {left : ℕ} {numbers' l0 s0 l1 s1 l2 s2 : List ℕ}
-    → Leaves (links_of free leads0 sets0) (bit from) s l0 s0 → Leaves (links_of free leads1 sets1) (bit from) s l1 s1 → Leaves (links_of free leads2 sets2) (bit from) s l2 s2
-    → (left ≡ bit_or free (2 ^ s)) × (numbers' ≡ put numbers s 0)
-    → net next left numbers' ports l0 s0 l1 s1 l2 s2 ≡ network_left (net next free numbers ports leads0 sets0 leads1 sets1 leads2 sets2) (bit from) s
+-- the stations below i are left, and the others are as they were
+pub record Leaving (free : ℕ) (t : ℕ → Bool) (s : ℕ) (old : List Kept.Station) (i : ℕ) (now : List Kept.Station) : Type 0 where
+  pub long : length now ≡ 3
+  pub done : (k : ℕ) → k < i → Leaves (links_of free (nets.leads_at old k) (nets.sets_at old k)) t s (nets.leads_at now k) (nets.sets_at now k)
+  pub rest : (k : ℕ) → i ≤ k → at_station now k ≡ at_station old k
+
+pub leaving_start : {free s : ℕ} {t : ℕ → Bool} {old : List Kept.Station} → length old ≡ 3 → Leaving free t s old 0 old
+leaving_start e = record { long = e; done = λ k q. absurd (omega arith); rest = λ k q. refl }
+
+pub leaving_turn : {free s i : ℕ} {t : ℕ → Bool} {old now : List Kept.Station} {x : Kept.Station} → Leaving free t s old i now → i < 3
+    → Leaves (links_of free (nets.leads_at now i) (nets.sets_at now i)) t s x.leads x.sets → Leaving free t s old (i + 1) (set now i x)
+leaving_turn {free} {s} {i} {t} {old} {now} {x} r q v =
+    record {
+      long = length-set now i x ∙ r.long;
+      done = λ k p. ⊎_elim (λ e. subst (λ (k : ℕ). Left k (at_station (set now i x) k)) (sym e) here) (λ ne. let f : k ≡ i → ⊥ = ne in before k f (omega arith)) (answer (eq_test k i));
+      rest = λ k p. let f : k ≡ i → ⊥ = λ e. omega arith in get_or-set_other now i k x _ f ∙ r.rest k (omega arith);
+    }
+  where
+    Left : ℕ → Kept.Station → Type 0
+    Left k y = Leaves (links_of free (nets.leads_at old k) (nets.sets_at old k)) t s y.leads y.sets
+
+    here : Left i (at_station (set now i x) i)
+    here =
+        subst (λ (y : Kept.Station). Left i y) (sym (get_or-set_same now i x _ (omega (arith, r.long))))
+        (subst (λ (y : Kept.Station). Leaves (links_of free y.leads y.sets) t s x.leads x.sets) (r.rest i (omega arith)) v)
+
+    before : (k : ℕ) → (k ≡ i → ⊥) → k < i → Left k (at_station (set now i x) k)
+    before k f p = subst (λ (y : Kept.Station). Left k y) (sym (get_or-set_other now i k x _ f)) (r.done k p)
+
+pub left_all : (next free : ℕ) (numbers ports : List ℕ) (old : List Kept.Station) (from s : ℕ) {left i : ℕ} {numbers' : List ℕ} {now : List Kept.Station}
+    → Leaving free (bit from) s old i now → 3 ≤ i → (left ≡ bit_or free (2 ^ s)) × (numbers' ≡ put numbers s 0)
+    → net next left numbers' ports now ≡ network_left (net next free numbers ports old) (bit from) s
 unfolding network_left left_at number_at leads_at word_at open_at
-left_all next free numbers ports leads0 sets0 leads1 sets1 leads2 sets2 from s a b d v =
-    λ i. net next (v.0 i) (v.1 i) ports (a.left_leads i) (a.left_sets i) (b.left_leads i) (b.left_sets i) (d.left_leads i) (d.left_sets i)
+left_all next free numbers ports old from s {left} {i} {numbers'} {now} r q v =
+    let a = r.done 0 (omega arith) in
+    let b = r.done 1 (omega arith) in
+    let d = r.done 2 (omega arith) in
+    λ j. record {
+      next = next;
+      free = v.0 j;
+      numbers = v.1 j;
+      ports = ports;
+      part_0 = record { leads = a.left_leads j; sets = a.left_sets j };
+      part_1 = record { leads = b.left_leads j; sets = b.left_sets j };
+      part_2 = record { leads = d.left_leads j; sets = d.left_sets j };
+    }
 
 left_net : (n : Network) (t : ℕ → Bool) (s : ℕ) {from : ℕ} → from ≡ mask_of 32 t → network_left n (bit from) s ≡ network_left n t s
 unfolding network_left
@@ -235,36 +300,31 @@ module _ (n : Network) {m : Network} {s : ℕ} (from : ℕ) (b : JobNumber) (f :
   left_here : m ≡ network_left n (bit from) s
   left_here = l ∙ ap (network_left n (bit from)) (mod-eq_of_lt f.inside)
 
-  pub does_end : {c : ℕ} {r : Moved} {rows : List ℕ} → rows ≡ joined_rows n.part_0.leads n.part_1.leads n.part_2.leads → from ≡ mask_of 32 (leads_to n.free rows (s % 32))
-      → Told m.next m.free (Granted b) r → Does n an_end b.0 c r (front m r.next r.free)
+  pub does_end : {c : ℕ} {rows : List ℕ} → rows ≡ joined_rows n.part_0.leads n.part_1.leads n.part_2.leads → from ≡ mask_of 32 (leads_to n.free rows (s % 32)) → Does n an_end b.0 c (Ok b) m
   unfolding network_moved network_ended job_of joined joined_leads leads_at open_at
   does_end {c} j e =
-      told_by m 0 (code_end n b.0 c f.first) refl
+      does_by 0 (code_end n b.0 c f.first) refl
       (left_here ∙ left_net n (takes_over (joined n) s) s (e ∙ ap₂ (λ (l : List ℕ) (s : ℕ). mask_of 32 (leads_to n.free l s)) j (mod-eq_of_lt f.inside))
       ∙ ap (λ (o : Option ℕ). with_slot o (λ s. network_ended n s) n) (sym f.first))
 
--- what `has_altered` tells of the three stations
-abandon_code : (n : Network) (c : ℕ) {s : ℕ} {x y z w : Bool} (b : JobNumber) → Found (master n) b.0 s
-    → x ≡ altered (sets_only n.part_0.sets) (s % 32) → y ≡ altered (sets_only n.part_1.sets) (s % 32) → z ≡ altered (sets_only n.part_2.sets) (s % 32)
-    → x || (y || z) ≡ w → network_code n an_abandon b.0 c ≡ cond w 4 0
-unfolding altered word_at
-abandon_code n c b f e0 e1 e2 e =
-    code_abandon n b.0 c f.first (ap (knows n) (sym (mod-eq_of_lt f.inside)) ∙ sym (λ i. e0 i || (e1 i || e2 i)) ∙ e)
+-- what the three stations know of the slot's altered cells
+abbrev some_altered : Network → ℕ → Bool
+some_altered n s = altered (sets_only n.part_0.sets) s || (altered (sets_only n.part_1.sets) s || altered (sets_only n.part_2.sets) s)
 
-pub does_altered : {n : Network} {s c : ℕ} {x y z : Bool} (b : JobNumber) {r : Moved} → Found (master n) b.0 s
-    → x ≡ altered (sets_only n.part_0.sets) (s % 32) → y ≡ altered (sets_only n.part_1.sets) (s % 32) → z ≡ altered (sets_only n.part_2.sets) (s % 32)
-    → x || (y || z) ≡ true → Told n.next n.free HasWritten r → Does n an_abandon b.0 c r (front n r.next r.free)
-does_altered {n} {c = c} b f e0 e1 e2 e = told_by n 4 (abandon_code n c b f e0 e1 e2 e) refl refl
+module _ (n : Network) (c : ℕ) {s : ℕ} {x : Bool} (b : JobNumber) (f : Found (master n) b.0 s) (e : x ≡ some_altered n (s % 32)) where
+  abandon_code : {y : Bool} → x ≡ y → network_code n an_abandon b.0 c ≡ cond y 4 0
+  unfolding altered word_at
+  abandon_code y = code_abandon n b.0 c f.first (ap (knows n) (sym (mod-eq_of_lt f.inside)) ∙ sym e ∙ y)
 
-pub does_abandon : {n m : Network} {s c : ℕ} {x y z : Bool} (b : JobNumber) {r : Moved} → Found (master n) b.0 s
-    → x ≡ altered (sets_only n.part_0.sets) (s % 32) → y ≡ altered (sets_only n.part_1.sets) (s % 32) → z ≡ altered (sets_only n.part_2.sets) (s % 32)
-    → x || (y || z) ≡ false → m ≡ network_left n (bit 0) (s % 32)
-    → Told m.next m.free (Granted b) r → Does n an_abandon b.0 c r (front m r.next r.free)
-unfolding network_moved network_abandoned job_of
-does_abandon {n} {m} {s} {c} b f e0 e1 e2 e l =
-    told_by m 0 (abandon_code n c b f e0 e1 e2 e) refl
-    (left_here n 0 b f l ∙ left_net n (λ i. false) s (masked 32 (λ i. false) (lit< tt) (λ k q. bit_zero k))
-    ∙ ap (λ (o : Option ℕ). with_slot o (λ s. network_abandoned n s) n) (sym f.first))
+  pub does_altered : x ≡ true → Does n an_abandon b.0 c (Err HasWritten) n
+  does_altered y = does_by 4 (abandon_code y) refl refl
+
+  pub does_abandon : {m : Network} → x ≡ false → m ≡ network_left n (bit 0) (s % 32) → Does n an_abandon b.0 c (Ok b) m
+  unfolding network_moved network_abandoned job_of
+  does_abandon y l =
+      does_by 0 (abandon_code y) refl
+      (left_here n 0 b f l ∙ left_net n (λ i. false) s (masked 32 (λ i. false) (lit< tt) (λ k q. bit_zero k))
+      ∙ ap (λ (o : Option ℕ). with_slot o (λ s. network_abandoned n s) n) (sym f.first))
 
 -- ---- a publish
 
@@ -272,32 +332,41 @@ the_slot : (o : Option ℕ) → T (is_some o) → (s : ℕ) × (o ≡ some s)
 the_slot none t = absurd t
 the_slot (some s) t = (s, refl)
 
--- the write has left r₁ and m₁, and x is the code of its answer
-module _ {n m₁ : Network} {j c : ℕ} {r₁ : Moved} {x : ℕ} (d : Does n (a_step write) j c r₁ m₁) (e : x ≡ (numbered r₁.answer).code) where
-  write_code : network_code n (a_step write) j c ≡ x
-  write_code = sym (ap (λ (y : Reply). y.code) d.answered) ∙ sym e
+-- the write has left m₁
+module _ {n m₁ : Network} {j c : ℕ} {r₁ : Result JobNumber Refusal} (d : Does n (a_step write) j c r₁ m₁) where
+  write_code : network_code n (a_step write) j c ≡ (numbered r₁).code
+  write_code = sym (ap (λ (y : Reply). y.code) d.answered)
 
-  pub does_publish_refused : (x ≡ 0 → ⊥) → Does n a_publish j c r₁ m₁
+  -- with a refusal
+  pub does_publish_refused : {e : Refusal} → r₁ ≡ Err e → Does n a_publish j c (Err e) m₁
   unfolding network_code tests job_of
-  does_publish_refused f =
+  does_publish_refused {e} q =
       record {
-        answered = d.answered;
+        answered = ap numbered (sym q) ∙ d.answered;
         left = d.left ∙ ap (λ (b : Bool). cond b (network_moved n (a_step write) j c) n) no_grant ∙ sym (ap (λ (b : Bool). cond b (network_moved n a_publish j c) n) no_grant);
       }
     where
       no_grant : eqb (network_code n (a_step write) j c) 0 ≡ false
-      no_grant = ap (λ (y : ℕ). eqb y 0) write_code ∙ ne_eqb x 0 f
+      no_grant = ap (λ (y : ℕ). eqb y 0) (write_code ∙ ap (λ (r : Result JobNumber Refusal). (numbered r).code) q) ∙ refused e
 
-  -- and the end has left r and m
-  pub does_publish : {r : Moved} {m : Network} → x ≡ 0 → Does m₁ an_end j 0 r m → Does n a_publish j c r m
+  -- with a grant, and the end of the job that it names has left m
+  pub does_publish : {x : JobNumber} {r : Result JobNumber Refusal} {m : Network} → r₁ ≡ Ok x → Does m₁ an_end x.0 0 r m → Does n a_publish j c r m
   unfolding network_moved job_of
-  does_publish {r} {m} z f =
+  does_publish {x} {r} {m} q f₁ =
       does_by 0 publish_code (f.answered ∙ ap (reply_at m₁ an_end j) ends)
       (f.left ∙ ap (net_at m₁ an_end j 0) ends ∙ ap (λ (o : Option ℕ). with_slot o (λ s. network_ended m₁ s) m₁) still ∙ ap (λ (y : Network). network_ended y found.0) written
       ∙ ap (λ (o : Option ℕ). with_slot o (λ s. network_ended (network_stepped n write s c) s) n) (sym found.1))
     where
       granted : network_code n (a_step write) j c ≡ 0
-      granted = write_code ∙ z
+      granted = write_code ∙ ap (λ (r : Result JobNumber Refusal). (numbered r).code) q
+
+      named : x.0 ≡ j
+      named =
+          ap (λ (r : Result JobNumber Refusal). (numbered r).job) (sym q) ∙ ap (λ (y : Reply). y.job) d.answered
+          ∙ ap (λ (y : ℕ). cond (eqb y 0) (job_of n.next (a_step write) j) 0) granted
+
+      f : Does m₁ an_end j 0 r m
+      f = subst (λ (j : ℕ). Does m₁ an_end j 0 r m) named f₁
 
       publish_code : network_code n a_publish j c ≡ 0
       publish_code = unfold network_code tests in granted

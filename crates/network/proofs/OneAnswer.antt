@@ -1,24 +1,24 @@
--- The contract of the crate's public function leaves one result: two results that meet it are equal, and so are the eight arrays at exit. A theorem of the
+-- Each contract of the crate's public functions leaves one result: two results that meet it are equal, and so is the network at exit. A theorem for each function, named after it, of the
 -- contract itself: `Post` is what Rattle reads of the function's `ensures`.
 -- Assumes nothing.
 use mathlib.Core.Path.{◌≡◌, sym, ◌∙◌}
 use contract.Lifetimes.{Lfts}
 use borrow.Fn.Kinds.{Dens, res_t, ended_of}
 use denote.Triple.Clauses.{AtExit}
+use Rattle.cells.proofs.OneAnswer.{One}
 use Rattle.slots.proofs.OneAnswer.{one_answer}
-use Rattle.network.proofs.network_in_place.Kinds as kinds
-use Rattle.network.proofs.network_in_place.Reads as reads
+use Rattle.network.specs.Nets.{net_of}
+use Rattle.network.proofs.station_of.Kinds as station_kinds
+use Rattle.network.proofs.station_of.Reads as station_reads
+use Rattle.network.proofs.Network.ask.Kinds as ask_kinds
+use Rattle.network.proofs.Network.ask.Reads as ask_reads
 
--- the arrays are its third to tenth parameter
-pub one_network_in_place : (κs : Lfts 8) (a : Dens κs kinds.ps) (x y : (res_t kinds.r κs).Denot)
-    (s t : AtExit (ended_of 8 kinds.ps kinds.r) κs)
-    → reads.Post κs a x s
-    → reads.Post κs a y t
-    → (x ≡ y) × (s.1.1.0.now ≡ t.1.1.0.now) × (s.1.1.1.0.now ≡ t.1.1.1.0.now)
-    × (s.1.1.1.1.0.now ≡ t.1.1.1.1.0.now) × (s.1.1.1.1.1.0.now ≡ t.1.1.1.1.1.0.now)
-    × (s.1.1.1.1.1.1.0.now ≡ t.1.1.1.1.1.1.0.now) × (s.1.1.1.1.1.1.1.0.now ≡ t.1.1.1.1.1.1.1.0.now)
-    × (s.1.1.1.1.1.1.1.1.0.now ≡ t.1.1.1.1.1.1.1.1.0.now) × (s.1.1.1.1.1.1.1.1.1.0.now ≡ t.1.1.1.1.1.1.1.1.1.0.now)
-one_network_in_place κs a x y s t p q =
-    let answer = one_answer x.answer y.answer p.answered q.answered in
-    let left = p.left ∙ sym q.left in
-    (λ i. record { next = (left i).next; free = (left i).free; answer = answer i }, λ i. (left i).numbers, λ i. (left i).ports, λ i. (left i).part_0.leads, λ i. (left i).part_0.sets, λ i. (left i).part_1.leads, λ i. (left i).part_1.sets, λ i. (left i).part_2.leads, λ i. (left i).part_2.sets)
+pub one_station_of : One 0 station_kinds.ps station_kinds.r station_reads.Post
+one_station_of κs a x y s t p q = p ∙ sym q
+
+-- what it answers, and the network at exit: the next number, the free slots, the numbers and the ports, and of each station its leads and its sets
+pub one_ask : (κs : Lfts 1) (a : Dens κs ask_kinds.ps) (x y : (res_t ask_kinds.r κs).Denot) (s t : AtExit (ended_of 1 ask_kinds.ps ask_kinds.r) κs)
+    → ask_reads.Post κs a x s
+    → ask_reads.Post κs a y t
+    → (x ≡ y) × (net_of s.0.now ≡ net_of t.0.now)
+one_ask κs a x y s t p q = (one_answer x y p.answered q.answered, p.left ∙ sym q.left)

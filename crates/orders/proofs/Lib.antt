@@ -1,1 +1,2 @@
+pub mod InOne
 pub mod OneAnswer

@@ -1,56 +1,48 @@
-// What the programs for people share of words: the lines of an answer, put into a lent list.
+// What the programs for people share of words: the lines of an answer, put into a lent list. Each function answers the place past what it put, as those of `text` do, which promise of each piece that it is
+// put whole or not at all; a `write!` into the list would promise nothing of its bytes, and fill it with a part of the piece for which there is no room.
 #![tactic(auto)]
 
 ghost use Rattle.plain.specs.Stays.{Stays};
 
+use codes::Told;
+use logs::Fault;
+
 // A number with words before and after it.
-pub fn put_counted(before: &[u8], n: u64, after: &[u8], out: &mut [u8], at: usize) -> usize
+pub fn put_counted(before: &[u8], number: u64, after: &[u8], out: &mut [u8], at: usize) -> usize
     ensures { Stays at out.old out.new result }
 {
     let a = text::put_text(before, out, at);
-    let b = text::put_number(n, out, a);
+    let b = text::put_number(number, out, a);
     text::put_text(after, out, b)
 }
 
-// A number on a line of its own.
-fn put_line(n: u32, out: &mut [u8], at: usize) -> usize
-    ensures { Stays at out.old out.new result }
-{
-    put_counted(b"", n as u64, b"\n", out, at)
-}
-
-// The first numbers of a list, so many, a line for each.
-pub fn put_numbers(numbers: &[u32], count: usize, out: &mut [u8], at: usize) -> usize
+// Numbers, a line for each.
+pub fn put_numbers(numbers: &[u32], out: &mut [u8], at: usize) -> usize
     ensures { Stays at out.old out.new result }
 {
     let mut to = at;
-    let mut i: usize = 0;
-    while i < count {
-        if numbers.len() <= i {
-            return to;
-        }
-        to = put_line(numbers[i], out, to);
-        i += 1;
+    for number in numbers {
+        to = put_counted(b"", u64::from(*number), b"\n", out, to);
     }
     to
 }
 
 // The first line of an answer that accepts: how many jobs are kept.
-pub fn put_accepted(n: u64, out: &mut [u8], at: usize) -> usize
+pub fn put_accepted(jobs: u64, out: &mut [u8], at: usize) -> usize
     ensures { Stays at out.old out.new result }
 {
-    put_counted(b"accepted ", n, b"\n", out, at)
+    put_counted(b"accepted ", jobs, b"\n", out, at)
 }
 
-// The first line of an answer that refuses.
+// The first line of an answer that refuses, for any code and place.
 pub fn put_refused(code: u32, place: u64, out: &mut [u8], at: usize) -> usize
     ensures { Stays at out.old out.new result }
 {
-    let a = put_counted(b"refused ", code as u64, b" ", out, at);
+    let a = put_counted(b"refused ", u64::from(code), b" ", out, at);
     put_counted(b"", place, b"\n", out, a)
 }
 
-// What is wrong with a log, in words, for the codes 11 to 14. For any other code nothing is put.
+// What is wrong with a log, in words, for the codes 11 to 14. For any other code nothing is put: the code stays a number, as this function takes any.
 pub fn put_fault(code: u32, place: u64, out: &mut [u8], at: usize) -> usize
     ensures { Stays at out.old out.new result }
 {
@@ -77,4 +69,18 @@ pub fn put_fault(code: u32, place: u64, out: &mut [u8], at: usize) -> usize
         14 => put_counted(b"record ", place, b" opens the 513th job\n", out, at),
         _ => at,
     }
+}
+
+// The first line of a refusal that is told by its code and its place.
+pub fn put_told(refusal: impl Told, out: &mut [u8], at: usize) -> usize
+    ensures { Stays at out.old out.new result }
+{
+    put_refused(refusal.code(), refusal.place() as u64, out, at)
+}
+
+// What is wrong with a log, in words.
+pub fn put_log_fault(fault: Fault, out: &mut [u8], at: usize) -> usize
+    ensures { Stays at out.old out.new result }
+{
+    put_fault(fault.code(), fault.place() as u64, out, at)
 }

@@ -1,13 +1,13 @@
 -- Each contract of the crate's public functions leaves one result: two results that meet it are equal. A theorem for each function, named after it, of the
 -- contract itself. Where Rattle covers the parameters, `Post` is what it reads of the `ensures` (`One`). For the functions over a `Reader` the `ensures` are an
--- assertion, and two that hold together give the equation (`OneOf`); for `Reader::next` the readers at exit are equal too.
+-- assertion, and two that hold together give the equation (`OneOf`); for `next` of a reader the readers at exit are equal too.
 -- Assumes nothing.
 use mathlib.Core.Path.{◌≡◌, refl, sym, ap, ◌∙◌}
 use mathlib.Core.Option.{Option, none, some}
 use mathlib.Core.List.{List}
 use Prim.Native.Nat.{ℕ}
 use seplogic.Ra.Ura.{Ura}
-use base.Logic.{SProp, ent, sep, fst∗, snd∗}
+use base.Logic.{SProp, ent, sep, via, mono∗, fst∗, snd∗}
 use prog.Memory.{Memory}
 use prog.Routine.{Routine}
 use types.Logic.{Logic}
@@ -17,10 +17,11 @@ use borrow.Fn.Kind.{ParamKind, ResultKind}
 use borrow.Fn.Kinds.{Out, Dens, res_t, ended_of}
 use denote.Triple.Entry.{Args, Res}
 use denote.Triple.Clauses.{Ended, AtExit, Clauses}
+use Rattle.std.specs.declared.option.Option as rust
+use Rattle.std.specs.declared.option.Option.TheVariants.{Some, None}
 use Rattle.history.specs.Replies.{Request}
 use Rattle.reader.specs.Next.{told}
-use Rattle.reader.specs.declared.Next.{Next}
-use Rattle.reader.specs.declared.Next.TheVariants.{Record, End}
+use Rattle.reader.specs.declared.Record.{Record}
 use Rattle.reader.proofs.after.Kinds as after_kinds
 use Rattle.reader.proofs.after.Reads as after_reads
 use Rattle.reader.proofs.record_at.Kinds as record_at_kinds
@@ -30,21 +31,21 @@ use Rattle.reader.proofs.next_record.Reads as next_record_reads
 use Rattle.reader.specs.contracts.Reader.new as new
 use Rattle.reader.specs.contracts.Reader.at as at
 use Rattle.reader.specs.contracts.Reader.place as place
-use Rattle.reader.specs.contracts.Reader.next as next
+use Rattle.reader.specs.contracts.ReaderIterator.next as next
 
 -- ---- the fields that are told make the record again
 
 -- the record that has these fields
-back : Option Request → Next
-back (some r) = Record (record { kind = r.kind; byte1 = r.byte1; cell = r.cell; job = r.job })
-back none = End
+back : Option Request → rust.Option Record
+back (some r) = Some (record { kind = r.kind; byte1 = r.byte1; cell = r.cell; job = r.job })
+back none = None
 
-told_back : (n : Next) → back (told n) ≡ n
+told_back : (n : rust.Option Record) → back (told n) ≡ n
 unfolding back
-told_back (Record r) = refl
-told_back End = refl
+told_back (Some r) = refl
+told_back None = refl
 
-same_next : {v : Option Request} (x y : Next) → told x ≡ v → told y ≡ v → x ≡ y
+same_next : {v : Option Request} (x y : rust.Option Record) → told x ≡ v → told y ≡ v → x ≡ y
 same_next x y p q = sym (told_back x) ∙ ap back (p ∙ sym q) ∙ told_back y
 
 -- ---- slices and numbers
@@ -76,6 +77,11 @@ module _ {M : Type 1} (𝓤 : Ura M) where
   from_both : (P Q C : Type 0) → (P → Q → C) → ent 𝓤 (sep 𝓤 (fact 𝓤 P) (fact 𝓤 Q)) (fact 𝓤 C)
   from_both P Q C f = fact_use 𝓤 P (fst∗ 𝓤 (fact 𝓤 P) (fact 𝓤 Q)) (λ p. fact_use 𝓤 Q (snd∗ 𝓤 (fact 𝓤 P) (fact 𝓤 Q)) (λ q. fact_i 𝓤 C (sep 𝓤 (fact 𝓤 P) (fact 𝓤 Q)) (f p q)))
 
+  -- where each has more beside it
+  from_firsts : (P Q R S C : Type 0) → (P → Q → C) → ent 𝓤 (sep 𝓤 (sep 𝓤 (fact 𝓤 P) (fact 𝓤 R)) (sep 𝓤 (fact 𝓤 Q) (fact 𝓤 S))) (fact 𝓤 C)
+  from_firsts P Q R S C f =
+      via 𝓤 (sep 𝓤 (fact 𝓤 P) (fact 𝓤 Q)) (mono∗ 𝓤 (fst∗ 𝓤 (fact 𝓤 P) (fact 𝓤 R)) (fst∗ 𝓤 (fact 𝓤 Q) (fact 𝓤 S))) (from_both P Q C f)
+
   module _ (𝓛 : Logic 𝓤) (mem : Memory → SProp 𝓤) (run : Routine → Fun 𝓤) where
     pub one_new : OneOf new.ended (new.clauses 𝓛 mem run)
     one_new κs a g x y s t = from_both _ _ _ (λ p q. λ i. record { log = (p.0 ∙ sym q.0) i; place = (p.1 ∙ sym q.1) i })
@@ -87,4 +93,4 @@ module _ {M : Type 1} (𝓤 : Ura M) where
     one_place κs a g x y s t = from_both _ _ _ (λ p q. p ∙ sym q)
 
     pub one_next : Both next.ended (next.clauses 𝓛 mem run) (λ κs x s y t. (x ≡ y) × (s.0.now ≡ t.0.now))
-    one_next κs a g x y s t = from_both _ _ _ (λ p q. (same_next x y p.0 q.0, p.1 ∙ sym q.1))
+    one_next κs a g x y s t = from_firsts _ _ _ _ _ (λ p q. (same_next x y p.0 q.0, p.1 ∙ sym q.1))

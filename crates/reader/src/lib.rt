@@ -1,13 +1,14 @@
 // A log read one record at a time.
 #![tactic(auto)]
 
-ghost use Rattle.std.specs.Prelude.{◌≡◌, ◌+◌, ◌*◌};
+ghost use Rattle.std.specs.Prelude.{◌≡◌, ◌+◌, ◌-◌, ◌*◌, ◌/◌, length};
+ghost use Rattle.std.specs.Iterator.{at_most};
 ghost use Rattle.std.proofs.Math.ListN.{get_elem?};
 ghost use Rattle.history.specs.Formats.{records};
 ghost use Rattle.reader.specs.Next.{told, place_after, moved_on};
 
 // The fields of a record, not judged.
-#[derive(Clone, Copy)]
+#[derive(Clone, Copy, PartialEq, Eq)]
 pub struct Record {
     pub kind: u8,
     pub byte1: u8,
@@ -15,40 +16,20 @@ pub struct Record {
     pub job: u32,
 }
 
-// The record that is there, or that none is.
-#[derive(Clone, Copy)]
-pub enum Next {
-    Record(Record),
-    End,
-}
-
-// A number of two bytes, and one of four, low byte first.
-fn two(a: u8, b: u8) -> u32
-    ensures { result ≡ a + b * 256 }
-{
-    a as u32 + b as u32 * 256
-}
-
-fn four(a: u8, b: u8, c: u8, d: u8) -> u32
-    ensures { result ≡ a + b * 256 + c * 65536 + d * 16777216 }
-{
-    a as u32 + b as u32 * 256 + c as u32 * 65536 + d as u32 * 16777216
-}
-
-// The record at a place of the log, counted from 0.
-pub fn record_at(log: &[u8], place: usize) -> Next
+// The record at a place of the log, counted from 0. By place: the contract says it so, and of a piece that `as_chunks` gives it would have to be shown which bytes of the log it has.
+pub fn record_at(log: &[u8], place: usize) -> Option<Record>
     ensures { told result ≡ get_elem? (records log.now) place }
 {
     if place < log.len() / 8 {
         let at = place * 8;
-        return Next::Record(Record {
+        return Some(Record {
             kind: log[at],
             byte1: log[at + 1],
-            cell: two(log[at + 2], log[at + 3]),
-            job: four(log[at + 4], log[at + 5], log[at + 6], log[at + 7]),
+            cell: u32::from(u16::from_le_bytes([log[at + 2], log[at + 3]])),
+            job: u32::from_le_bytes([log[at + 4], log[at + 5], log[at + 6], log[at + 7]]),
         });
     }
-    Next::End
+    None
 }
 
 // The place after this one; at or past the last record it stays.
@@ -89,11 +70,18 @@ impl<'a> Reader<'a> {
     {
         self.place
     }
+}
+
+// The records in their order.
+impl<'a> Iterator for Reader<'a> {
+    type Item = Record;
+
+    ghost next_gives = { λ r read s. (told read ≡ get_elem? (records r.log.now) r.place) × (s ≡ moved_on r) };
+
+    ghost remaining = { λ r. at_most (length r.log.now / 8 - r.place) };
 
     // The next record; the reader moves on.
-    pub fn next(&mut self) -> Next
-        ensures { (told result ≡ get_elem? (records self.old.log.now) self.old.place) × (self.new ≡ moved_on self.old) }
-    {
+    fn next(&mut self) -> Option<Record> {
         let log = self.log;
         let place = self.place;
         let next = record_at(log, place);
@@ -102,8 +90,8 @@ impl<'a> Reader<'a> {
     }
 }
 
-// The record at a place, read by a reader that is made for it.
-pub fn next_record(log: &[u8], place: usize) -> Next
+// The record at a place, read by a reader that is made for it. It says what `record_at` says, and stays as `one_next_record` names it.
+pub fn next_record(log: &[u8], place: usize) -> Option<Record>
     ensures { told result ≡ get_elem? (records log.now) place }
 {
     let mut r = Reader::at(log, place);

@@ -3,7 +3,7 @@
 -- First the words of a set, as they are taken out of the list (`set_law`), and a row's past as the union of its two sets (`past_law`). Then a pass over the marks of a mask that gathers
 -- those which pass a test (`Gathering`). Last what an open leaves (`opens`).
 -- Assumes nothing.
-use mathlib.Core.Path.{◌≡◌, refl, sym, ap, ap₂, ◌∙◌}
+use mathlib.Core.Path.{◌≡◌, refl, sym, ap, ap₂, ◌∙◌, subst}
 use mathlib.Core.Bool.{Bool, true, false, not, ◌&&◌, ◌||◌, cond, and-false, or-true, or-false}
 use mathlib.Core.List.{List, [], ◌∷◌}
 use Prim.Native.Nat.{ℕ, ◌+◌, ◌-◌, ◌*◌, ◌%◌, ◌^◌, ◌<◌}
@@ -12,7 +12,7 @@ use lib.Bits.{bit_or, bit_and, or_lt}
 use lib.Count.{count_trailing_zeros}
 use lib.Dec.{eqb}
 use lib.ListN.{length, get_or}
-use lib.Pow.{pow_pos}
+use lib.Pow.{pow_pos, pow-lt}
 use Rattle.graph.specs.Decide.{by_test, eq_test, test_true, test_false}
 use Rattle.marks.specs.Marks.{bit, mask_of, without}
 use Rattle.marks.specs.MarkLaws.{getD_tab, tab_same, bit_zero, bit_put, bit_others, and_others}
@@ -21,7 +21,7 @@ use Rattle.marks.specs.Words.{union, empty}
 use Rattle.cells.proofs.Laws.{or_none}
 use Rattle.held.specs.Held.{Held, word_at, leads_at, open_at, set_at, has_past, opened_at}
 use Rattle.rows.specs.Rows.{sets_only, Opens, struck, gained_row, gained, blanked}
-use Rattle.rows.proofs.SetLaws.{Part, part_tab}
+use Rattle.rows.proofs.SetLaws.{mark_is, Part, part_tab}
 
 -- ---- a set and its words
 
@@ -97,23 +97,23 @@ module _ {w from : ℕ} {p : ℕ → Bool} where
 -- ---- an open
 
 -- the slot's mark is struck, and then those lead to it that are open and have a past. It counts as free itself, and so it leads nowhere
-opened_leads : {leaders : ℕ} {leads₁ leads₂ : List ℕ} (h : Held) (s : ℕ) → h.free < 2 ^ 32 → s < 32
-    → leaders ≡ mask_of 32 (λ i. bit (2 ^ 32 - 1 - bit_or h.free (1 * 2 ^ s % 2 ^ 32)) i && has_past (sets_only h.sets) i)
+opened_leads : {leaders m : ℕ} {leads₁ leads₂ : List ℕ} (h : Held) (s : ℕ) → h.free < 2 ^ 32 → s < 32 → m ≡ 2 ^ s
+    → leaders ≡ mask_of 32 (λ i. bit (2 ^ 32 - 1 - bit_or h.free m) i && has_past (sets_only h.sets) i)
     → leads₁ ≡ struck h.leads s → leads₂ ≡ gained leads₁ (bit leaders) (2 ^ s) → leads₂ ≡ (opened_at h 0 s).leads
 unfolding opened_at open_at leads_at has_past word_at
-opened_leads {leaders} {leads₁} h s fits inside eb e₁ e₂ =
+opened_leads {leaders} {m} {leads₁} h s fits inside em eb e₁ e₂ =
     e₂ ∙ tab_same 32 (gained_row leads₁ (bit leaders) (2 ^ s)) _ (λ i q.
     ap₂ (λ (b : Bool) (n : ℕ). cond b (bit_or n (2 ^ s)) n)
     (bit_of 32 (λ i. bit (2 ^ 32 - 1 - shut) i && has_past h i) eb i q
-    ∙ ap (λ (b : Bool). b && has_past h i) (bit_others 32 shut i shut_fits q ∙ ap not (bit_put 32 h.free s i inside)))
+    ∙ ap (λ (b : Bool). b && has_past h i) (bit_others 32 shut i shut_fits q ∙ ap not (ap (λ (x : ℕ). bit (bit_or h.free x) i) (mark_is em inside) ∙ bit_put 32 h.free s i inside)))
     (ap (λ (l : List ℕ). get_or l i 0) e₁ ∙ getD_tab 32 (λ i. cond (eqb i s) 0 (without (get_or h.leads i 0) s)) i 0 q)
     ∙ row i)
   where
     shut : ℕ
-    shut = bit_or h.free (1 * 2 ^ s % 2 ^ 32)
+    shut = bit_or h.free m
 
     shut_fits : shut < 2 ^ 32
-    shut_fits = or_lt 32 h.free (1 * 2 ^ s % 2 ^ 32) fits (mod-lt (1 * 2 ^ s) (pow_pos 32))
+    shut_fits = or_lt 32 h.free m fits (subst (λ (x : ℕ). x < 2 ^ 32) (sym em) (pow-lt inside))
 
     -- row i, that has a past or none, with what it led to but for s
     row : (i : ℕ) → let n = without (get_or h.leads i 0) s in
@@ -127,10 +127,10 @@ opened_leads {leaders} {leads₁} h s fits inside eb e₁ e₂ =
         (λ e. ap (λ (b : Bool). cond (not b && p) (bit_or 0 (2 ^ s)) 0) (or-true (bit h.free i)))
         (λ e. ap (λ (b : Bool). cond (not b && p) (bit_or n (2 ^ s)) n) (or-false (bit h.free i)))
 
-pub opens : {leaders : ℕ} {leads₁ leads₂ sets₁ : List ℕ} (h : Held) (s : ℕ) → h.free < 2 ^ 32 → s < 32
-    → leaders ≡ mask_of 32 (λ i. bit (2 ^ 32 - 1 - bit_or h.free (1 * 2 ^ s % 2 ^ 32)) i && has_past (sets_only h.sets) i)
+pub opens : {leaders m : ℕ} {leads₁ leads₂ sets₁ : List ℕ} (h : Held) (s : ℕ) → h.free < 2 ^ 32 → s < 32 → m ≡ 2 ^ s
+    → leaders ≡ mask_of 32 (λ i. bit (2 ^ 32 - 1 - bit_or h.free m) i && has_past (sets_only h.sets) i)
     → leads₁ ≡ struck h.leads s → leads₂ ≡ gained leads₁ (bit leaders) (2 ^ s) → sets₁ ≡ blanked h.sets s
-    → Opens h s (bit_and h.free (2 ^ 32 - 1 - 1 * 2 ^ s % 2 ^ 32)) leads₂ sets₁
+    → Opens h s (bit_and h.free (2 ^ 32 - 1 - m)) leads₂ sets₁
 unfolding opened_at
-opens h s fits inside eb e₁ e₂ es =
-    record { left_free = and_others 32 h.free s fits inside; left_leads = opened_leads h s fits inside eb e₁ e₂; left_sets = es }
+opens h s fits inside em eb e₁ e₂ es =
+    record { left_free = ap (λ (x : ℕ). bit_and h.free (2 ^ 32 - 1 - x)) (mark_is em inside) ∙ and_others 32 h.free s fits inside; left_leads = opened_leads h s fits inside em eb e₁ e₂; left_sets = es }

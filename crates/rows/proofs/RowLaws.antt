@@ -3,18 +3,18 @@
 -- An empty set of words tells that nothing was altered (`altered_law`). Then what a slot that is left hands on (`hands`), and a slot that is left (`leaves`) or
 -- ends (`slot_ends`).
 -- Assumes nothing.
-use mathlib.Core.Path.{◌≡◌, refl, sym, ap, ◌∙◌}
+use mathlib.Core.Path.{◌≡◌, refl, sym, ap, ◌∙◌, subst}
 use mathlib.Core.Bool.{Bool, true, false, not, ◌&&◌, cond}
 use mathlib.Core.List.{List, []}
 use Prim.Native.Nat.{ℕ, ◌+◌, ◌-◌, ◌*◌, ◌/◌, ◌%◌, ◌^◌, ◌<◌}
-use native.Mathlib.Nat.{mod-lt}
 use native.Mathlib.Omega.{arith}
 use lib.Bits.{bit_or, bit_and}
 use lib.Dec.{lit<, leb, eqb}
 use lib.ListN.{get_or}
+use lib.Pow.{pow-lt}
 use borrow.Author.Tests.{eq-eqb}
 use Rattle.marks.specs.Marks.{bit, mask_of, without, tab}
-use Rattle.marks.specs.MarkLaws.{getD_tab, tab_same, bit_zero, bit_pow, mask_bits, shl_one}
+use Rattle.marks.specs.MarkLaws.{getD_tab, tab_same, bit_zero, bit_pow, mask_bits}
 use Rattle.marks.specs.MaskLaws.{bit_of, masked, mask_not, mask_others}
 use Rattle.marks.specs.Words.{empty}
 use Rattle.held.specs.Held.{Held, open_at, number_at, leads_at, word_at}
@@ -89,10 +89,9 @@ left_as free numbers leads sets t s leads₁ sets₁ fits ls ss =
     (tab_same 512 _ _ (λ w q. ap (λ (x : ℕ). cond (eqb (w / 16) s) 0 x) (ss w q)))
 
 -- the slots of a mask but s
-pub others_mask : (from s : ℕ) → from < 2 ^ 32 → s < 32 → bit_and from (2 ^ 32 - 1 - 1 * 2 ^ s % 2 ^ 32) ≡ mask_of 32 (λ k. not (eqb k s) && bit from k)
-others_mask from s fits inside =
-    mask_others 32 (bit from) (λ k. eqb k s) (1 * 2 ^ s % 2 ^ 32) (sym (mask_bits 32 from fits)) (mod-lt _ (lit< tt))
-    (λ k q. ap (λ (x : ℕ). bit x k) (shl_one 32 inside) ∙ bit_pow s k)
+pub others_mask : {m : ℕ} (from s : ℕ) → m ≡ 2 ^ s → from < 2 ^ 32 → s < 32 → bit_and from (2 ^ 32 - 1 - m) ≡ mask_of 32 (λ k. not (eqb k s) && bit from k)
+others_mask {m} from s e fits inside =
+    mask_others 32 (bit from) (λ k. eqb k s) m (sym (mask_bits 32 from fits)) (subst (λ (x : ℕ). x < 2 ^ 32) (sym e) (pow-lt inside)) (λ k q. ap (λ (x : ℕ). bit x k) e ∙ bit_pow s k)
 
 pub others_own : (from s : ℕ) {others : ℕ} → others ≡ mask_of 32 (λ k. not (eqb k s) && bit from k) → s < 32 → bit others s ≡ false
 others_own from s e inside = bit_of 32 (λ k. not (eqb k s) && bit from k) e s inside ∙ ap (λ (b : Bool). not b && bit from s) (eq-eqb s s refl)

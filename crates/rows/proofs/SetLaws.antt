@@ -1,6 +1,6 @@
 -- The lent sets, word by word, as tables.
 --
--- In order: words that code stores one after the other (`written`), four of them (`written_set`) or a row of zeros (`written_blank`); four words that are
+-- In order: words that code stores one after the other (`written`), four of them (`written_set`) or a row of zeros (`blank_part`); four words that are
 -- taken out (`Part`), changed and stored back, joined with a set (`joined_set`, and two fours after each other `joined_both`) or with two other fours (`gained_set`); a word that gains a mark (`put_mark`), by a step in
 -- one own set (`put_read`, `put_add`) or in both (`put_write`); a row's past that gains own and
 -- past of another row (`taken_over`), and a loop that does so for every row of a mask (`Folding`). How many words there are is a parameter, m.
@@ -11,21 +11,28 @@ use mathlib.Core.Logic.{⊎_elim}
 use mathlib.Core.Bool.{Bool, true, false, ◌&&◌, ◌||◌, cond, or-false}
 use mathlib.Core.List.{List, []}
 use Prim.Native.Nat.{ℕ, zero, suc, ◌+◌, ◌-◌, ◌*◌, ◌/◌, ◌%◌, ◌^◌, ◌≤◌, ◌<◌}
-use native.Mathlib.Nat.{add-zero}
 use native.Mathlib.Omega.{arith}
 use lib.Bits.{bit_or, bit_and}
 use lib.Count.{count_trailing_zeros}
 use lib.Dec.{T, leb, ltb, eqb}
-use lib.ListN.{length, get_or, set, take, drop, length-set, length-take, length-drop}
-use lib.Seq.{get_or-take, get_or-drop}
+use lib.ListN.{length, get_or, set, take, drop, replicate, length-set}
+use lib.Seq.{paste, get_or-take, get_or-drop}
+use native.Mathlib.Numerals.{add-one}
+use borrow.Rule.Slice.PartMut.{put_mid}
+use Rattle.std.proofs.lemmas.List.Edits.{paste_none, fill_from_more}
+use Rattle.std.proofs.lemmas.Slice.{put_mid-paste}
 use Rattle.graph.specs.Decide.{Decides, answer, false_is, by_test, eq_test, le_test, lt_test, and_test, same_test, test_true, test_false}
 use Rattle.marks.specs.Marks.{bit, tab}
-use Rattle.marks.specs.MarkLaws.{length_tab, getD_tab, tab_same, lowest_mark}
+use Rattle.marks.specs.MarkLaws.{length_tab, getD_tab, tab_same, lowest_mark, shl_one}
 use Rattle.marks.specs.MaskLaws.{tab_of, get_d_set, Visiting, visit_start, visit_turn, visit_kept, visit_end}
 use Rattle.marks.specs.Words.{union}
 use Rattle.cells.proofs.Laws.{written_out}
 use Rattle.history.specs.Events.{read, write, add}
 use Rattle.rows.specs.Rows.{three, gain, gained_word, folded_word, put_own, marked_own, joined_word}
+
+-- a row's mark, as laws of masks shift it
+pub mark_is : {m s : ℕ} → m ≡ 2 ^ s → s < 32 → m ≡ 1 * 2 ^ s % 2 ^ 32
+mark_is e h = e ∙ sym (shl_one 32 h)
 
 -- ---- words stored one after the other
 
@@ -37,6 +44,13 @@ written l at vs (suc n) = set (written l at vs n) (at + n) (get_or vs n 0)
 pub length_written : (l : List ℕ) (at : ℕ) (vs : List ℕ) (n : ℕ) → length (written l at vs n) ≡ length l
 length_written l at vs zero = refl
 length_written l at vs (suc n) = length-set (written l at vs n) (at + n) (get_or vs n 0) ∙ length_written l at vs n
+
+-- zeros, as a part filled with them
+written_zeros : (l : List ℕ) (at n : ℕ) → at + n ≤ length l → written l at [] n ≡ paste l at (replicate n 0) n
+written_zeros l at zero h = paste_none l at (replicate 0 0)
+written_zeros l at (suc n) h =
+    ap (λ (v : List ℕ). set v (at + n) 0) (written_zeros l at n (omega arith)) ∙ fill_from_more l at n 0 (omega arith)
+    ∙ ap (λ (k : ℕ). paste l at (replicate k 0) k) (add-one n)
 
 -- is w one of n places from a place on?
 among : (at n w : ℕ) → Decides (leb at w && ltb w (at + n)) ((at ≤ w) × (w < at + n))
@@ -65,19 +79,18 @@ module _ (m : ℕ) (l : List ℕ) (long : length l ≡ m) where
   written_tab at vs n h = tab_of (length_written l at vs n ∙ long) (λ w q. getD_written l at vs n w (omega arith))
 
   -- four words, as `store` stores them
-  pub written_set : (at : ℕ) (vs : List ℕ) → at + 4 ≤ m
-      → set (set (set (set l at (get_or vs 0 0)) (at + 1) (get_or vs 1 0)) (at + 2) (get_or vs 2 0)) (at + 3) (get_or vs 3 0)
-      ≡ tab m (λ w. cond (leb at w && leb w (at + 3)) (get_or vs (w - at) 0) (get_or l w 0))
+  pub written_set : (at : ℕ) (vs : List ℕ) → at + 4 ≤ m → written l at vs 4 ≡ tab m (λ w. cond (leb at w && leb w (at + 3)) (get_or vs (w - at) 0) (get_or l w 0))
   written_set at vs h =
-      ap (λ (k : ℕ). set (set (set (set l k (get_or vs 0 0)) (at + 1) (get_or vs 1 0)) (at + 2) (get_or vs 2 0)) (at + 3) (get_or vs 3 0)) (sym (add-zero at))
-      ∙ written_tab at vs 4 h
+      written_tab at vs 4 h
       ∙ tab_same m _ _ (λ w q. ap (λ (b : Bool). cond b (get_or vs (w - at) 0) (get_or l w 0)) (same_test (among at 4 w) (within at w) (λ r. omega arith) (λ r. omega arith)))
 
-  -- sixteen zeros are the row s
-  pub written_blank : (s i : ℕ) → i ≡ 16 → s * 16 + 16 ≤ m → written l (s * 16) [] i ≡ tab m (λ w. cond (eqb (w / 16) s) 0 (get_or l w 0))
-  written_blank s i e h =
-      written_tab (s * 16) [] i (omega arith)
-      ∙ tab_same m _ _ (λ w q. ap (λ (b : Bool). cond b 0 (get_or l w 0)) (same_test (among (s * 16) i w) (eq_test (w / 16) s) (λ r. omega arith) (λ r. omega arith)))
+  -- sixteen zeros in place of the row s
+  pub blank_part : {at k : ℕ} {ys : List ℕ} (s : ℕ) → at ≡ s * 16 → k ≡ 16 → ys ≡ replicate 16 0 → s * 16 + 16 ≤ m
+      → put_mid at k l ys ≡ tab m (λ w. cond (eqb (w / 16) s) 0 (get_or l w 0))
+  blank_part s ea ek ey h =
+      (λ i. put_mid (ea i) (ek i) l (ey i)) ∙ put_mid-paste (s * 16) 16 l (replicate 16 0) (replicate 16 0) 16 refl refl refl
+      ∙ sym (written_zeros l (s * 16) 16 (omega arith)) ∙ written_tab (s * 16) [] 16 h
+      ∙ tab_same m _ _ (λ w q. ap (λ (b : Bool). cond b 0 (get_or l w 0)) (same_test (among (s * 16) 16 w) (eq_test (w / 16) s) (λ r. omega arith) (λ r. omega arith)))
 
 -- ---- four words taken out, changed and stored back
 
@@ -91,10 +104,6 @@ part_at {l} {at} k t q = ap (λ (v : List ℕ). get_or v k 0) t.from ∙ get_or-
 
 pub part_tab : {l ws : List ℕ} {at : ℕ} → Part l at ws → ws ≡ tab 4 (λ k. get_or l (at + k) 0)
 part_tab {l} {at} t = tab_of {f = λ k. get_or l (at + k) 0} t.four (λ k. part_at k t)
-
--- as `load` reads them: at the numeral the table computes to its four elements
-pub part_out : (at : ℕ) (l : List ℕ) → at + 4 ≤ length l → tab 4 (λ k. get_or l (at + k) 0) ≡ take 4 (drop at l)
-part_out at l h = sym (part_tab {l = l} {at = at} (record { four = simp (length-take, length-drop) (omega arith); from = refl }))
 
 -- what the list holds with vs in their stead
 abbrev put : List ℕ → ℕ → List ℕ → ℕ → ℕ

@@ -2,7 +2,7 @@
 -- writes of a set leave of it. Then names for what the others ensure: the rules of masks of slots, the words in which a clash shows, and arrays that are
 -- changed. Each says of lists of numbers what `held` says of a state.
 -- Assumes nothing.
-use Rattle.std.specs.Prelude.{◌≡◌, Bool, true, false, not, ◌&&◌, cond, List, [], ℕ, ◌+◌, ◌-◌, ◌*◌, ◌/◌, ◌%◌, ◌^◌, leb, eqb, get_or}
+use Rattle.std.specs.Prelude.{◌≡◌, Bool, not, ◌&&◌, cond, List, [], Option, None, Some, ℕ, ◌+◌, ◌-◌, ◌*◌, ◌/◌, ◌%◌, ◌^◌, leb, eqb, get_or}
 use Rattle.std.specs.Int.Bits.{bit_or, bit_and}
 use Rattle.graph.specs.Decide.{some_of}
 use Rattle.marks.specs.Marks.{bit, without, tab}
@@ -12,6 +12,8 @@ use Rattle.late.specs.Late.{named}
 use Rattle.late.specs.LateHeld.{put_down, leads_back}
 use Rattle.rows.specs.declared.Deed.{Deed}
 use Rattle.rows.specs.declared.Deed.TheVariants.{Read, Write, Add}
+use Rattle.rows.specs.declared.Aspect.{Aspect}
+use Rattle.rows.specs.declared.Aspect.TheVariants.{Used, Altered}
 
 -- ---- what is lent, and what is left of it
 
@@ -80,28 +82,26 @@ three sets w u v = bit_or (get_or sets w 0) (bit_or (get_or sets u 0) (get_or se
 abbrev pub gain : List ℕ → ℕ → ℕ → ℕ → ℕ → ℕ
 gain sets to a b w = cond (leb to w && leb w (to + 3)) (three sets w (a + (w - to)) (b + (w - to))) (get_or sets w 0)
 
--- where the first set stands that a deed looks at: the altered cells for one that uses, the used cells for an add; and does it look at the used beside the altered?
-abbrev pub looks_from : Deed → ℕ
-looks_from Read = 4
-looks_from Write = 4
-looks_from Add = 0
+-- where the set of used or altered cells begins in a half row
+abbrev pub start_of : Aspect → ℕ
+start_of Used = 0
+start_of Altered = 4
 
-abbrev pub looks_twice : Deed → Bool
-looks_twice Read = false
-looks_twice Write = true
-looks_twice Add = false
+-- which word of a half row a step looks at: one that uses looks at the altered cells, an add at the used. And which beside that: a write looks at the used cells too
+abbrev pub first_word : Deed → ℕ → ℕ
+first_word Read c = 4 + c / 64
+first_word Write c = 4 + c / 64
+first_word Add c = c / 64
 
--- in which a clash would show, own and past of row i together: word f of either half row, and for a deed that looks twice word p
-abbrev pub clash_word : List ℕ → Bool → ℕ → ℕ → ℕ → ℕ
-clash_word sets twice f p i =
-    cond twice
-    (bit_or (bit_or (get_or sets (i * 16 + f) 0) (get_or sets (i * 16 + (8 + f)) 0)) (bit_or (get_or sets (i * 16 + p) 0) (get_or sets (i * 16 + (8 + p)) 0)))
-    (bit_or (get_or sets (i * 16 + f) 0) (get_or sets (i * 16 + (8 + f)) 0))
+abbrev pub second_word : Deed → ℕ → Option ℕ
+second_word Read c = None
+second_word Write c = Some (c / 64)
+second_word Add c = None
 
--- past alone
-abbrev pub past_word : List ℕ → Bool → ℕ → ℕ → ℕ → ℕ
-past_word sets twice f p i =
-    cond twice (bit_or (get_or sets (i * 16 + (8 + f)) 0) (get_or sets (i * 16 + (8 + p)) 0)) (get_or sets (i * 16 + (8 + f)) 0)
+-- what they show, in one: word f of the half row that begins at h, and the other one
+abbrev pub shown_word : List ℕ → ℕ → ℕ → Option ℕ → ℕ
+shown_word sets h f None = get_or sets (h + f) 0
+shown_word sets h f (Some p) = bit_or (get_or sets (h + f) 0) (get_or sets (h + p) 0)
 
 -- word w of a past that gains own and past of s, which stand at the same place of their half rows
 abbrev pub gained_word : List ℕ → ℕ → ℕ → ℕ

@@ -3,164 +3,106 @@
 // (bench/src/coarse.rs). The text says at its start how it is written. What is proved here is that the program is safe and ends.
 #![tactic(auto)]
 
-ghost use Rattle.std.specs.Prelude.{◌<◌};
-
-use archive::{Catalogue, JobNumber};
+use archive::{Answer, Catalogue, JobNumber, Replied};
 
 // ---- what is read
 
-// A line has so many bytes, its end among them; a number stands in it at a fixed column, with blanks before it.
+// So many bytes has a line, its end among them. What it says stands in columns.
 const LINE: usize = 39;
 
-// What a byte of a number counts: a blank nothing.
-fn digit(text: &[u8], i: usize) -> u64
-    ensures { result < 16 }
-{
-    if i < text.len() {
-        return (text[i] % 16) as u64;
-    }
-    0
-}
-
-// The number in a line, from one column to before another. No column holds more than ten bytes.
-fn number(text: &[u8], line: usize, from: usize, to: usize) -> u64 {
-    let start = line % 4096 * LINE;
-    let end = to % LINE;
-    let mut value: u64 = 0;
-    let mut i = from;
-    while i < end {
-        value = value % 1000000000 * 10 + digit(text, start + i);
-        i += 1;
-    }
-    value
-}
-
-fn byte_of(n: u64, place: u64) -> u8 {
-    ((n >> (place % 8 * 8)) % 256) as u8
+// The number in a column, with blanks before it: a blank counts as 0. No column holds more than ten bytes.
+// By hand: parse takes no blanks.
+fn number(column: &[u8]) -> u64 {
+    column.iter().fold(
+        0,
+        |value, byte| value % 1_000_000_000 * 10 + u64::from(*byte % 16),
+    )
 }
 
 // Kind, byte 1, cell and job.
-fn request_in(text: &[u8], line: usize) -> [u8; 8] {
-    let cell = number(text, line, 8, 13);
-    let job = number(text, line, 14, 24);
-    [
-        byte_of(number(text, line, 0, 3), 0),
-        byte_of(number(text, line, 4, 7), 0),
-        byte_of(cell, 0),
-        byte_of(cell, 1),
-        byte_of(job, 0),
-        byte_of(job, 1),
-        byte_of(job, 2),
-        byte_of(job, 3),
-    ]
+// Made by hand: bytes that are no request are asked, too.
+fn request_in(line: &[u8; LINE]) -> [u8; 8] {
+    let [kind, ..] = number(&line[0..3]).to_le_bytes();
+    let [byte1, ..] = number(&line[4..7]).to_le_bytes();
+    let [c0, c1, ..] = number(&line[8..13]).to_le_bytes();
+    let [j0, j1, j2, j3, ..] = number(&line[14..24]).to_le_bytes();
+    [kind, byte1, c0, c1, j0, j1, j2, j3]
+}
+
+// The first job of a history.
+fn first_in(line: &[u8; LINE]) -> JobNumber {
+    JobNumber((number(&line[14..24]) & 0xffff_ffff) as u32)
 }
 
 // ---- what is asked
 
-// How often each code was given, at its place; then the histories, the requests and what differs.
-type Counts = [u64; 16];
-
-const HISTORIES: usize = 10;
-
-const REQUESTS: usize = 11;
-
-const DIFFER: usize = 12;
-
-fn bump(counts: &mut Counts, i: usize, by: bool) {
-    let sum = std::num::wrapping_add_u64(counts[i % 16], by as u64);
-    counts[i % 16] = sum;
+// How often each code was given, at its place, and how many histories there were, how many requests and how many replies that were not as expected.
+#[derive(Drop)]
+struct Counts {
+    codes: [u64; 10],
+    histories: u64,
+    requests: u64,
+    differ: u64,
 }
 
-fn ask(before: Catalogue, request: [u8; 8], code: u64, job: u64, counts: &mut Counts) -> Catalogue {
-    let stepped = before.step(request);
-    let answer = stepped.answer;
-    let said = answer.code() as u64;
-    bump(counts, REQUESTS, true);
-    bump(counts, said as usize, true);
-    bump(counts, DIFFER, said != code || answer.job().0 as u64 != job);
-    stepped.state
-}
-
-fn fresh(first: u64) -> Catalogue {
-    Catalogue::fresh(JobNumber((first % 4294967296) as u32))
-}
-
-// A line is a comment, the start of a history with its first number, or a request with the code and the job expected.
-fn tell(before: Catalogue, text: &[u8], line: usize, counts: &mut Counts) -> Catalogue {
-    let mark = text_at(text, line);
-    if mark == b'#' {
-        return before;
+impl Counts {
+    // A reply, and the code and the job that were expected.
+    fn reply(&mut self, answer: Answer, code: u64, job: u64) {
+        let said = answer.code();
+        self.requests = self.requests.wrapping_add(1);
+        if let Some(given) = self.codes.get_mut(said as usize) {
+            *given = given.wrapping_add(1);
+        }
+        if u64::from(said) != code || u64::from(answer.job().0) != job {
+            self.differ = self.differ.wrapping_add(1);
+        }
     }
-    if mark == b'h' {
-        bump(counts, HISTORIES, true);
-        return fresh(number(text, line, 14, 24));
-    }
-    ask(
-        before,
-        request_in(text, line),
-        number(text, line, 25, 27),
-        number(text, line, 28, 38),
-        counts,
-    )
 }
 
-// The first byte of a line.
-fn text_at(text: &[u8], line: usize) -> u8 {
-    let start = line % 4096 * LINE;
-    if start < text.len() {
-        return text[start];
+// Each line is a comment, the start of a history with its first number, or a request with the code and the job expected.
+fn try_lines(lines: &[[u8; LINE]]) -> Counts {
+    let mut counts = Counts {
+        codes: [0; 10],
+        histories: 0,
+        requests: 0,
+        differ: 0,
+    };
+    let mut catalogue = Catalogue::fresh(JobNumber(0));
+    for line in lines {
+        match line[0] {
+            b'#' => {}
+            b'h' => {
+                counts.histories = counts.histories.wrapping_add(1);
+                catalogue = Catalogue::fresh(first_in(line));
+            }
+            _ => {
+                let answer = catalogue.ask(request_in(line));
+                counts.reply(answer, number(&line[25..27]), number(&line[28..38]));
+            }
+        }
     }
-    b'#'
-}
-
-fn all(text: &[u8], counts: &mut Counts) {
-    let lines = text.len() / LINE;
-    let mut shelf = fresh(0);
-    let mut line: usize = 0;
-    while line < lines {
-        shelf = tell(shelf, text, line, counts);
-        line += 1;
-    }
+    counts
 }
 
 // ---- what is written
 
-fn say(rt: &impl Print, words: &[u8]) {
-    host::write_all(rt, words);
-}
-
-fn say_count(rt: &impl Print, counts: &Counts, i: usize) {
-    host::print_decimal(rt, counts[i % 16]);
-}
-
-fn say_next(rt: &impl Print, counts: &Counts, i: usize) {
-    say(rt, b" ");
-    say_count(rt, counts, i);
-}
-
-fn say_codes(rt: &impl Print, counts: &Counts) {
-    let mut code: usize = 0;
-    while code < 10 {
-        say_next(rt, counts, code);
-        code += 1;
+fn say(rt: &impl Print, counts: &Counts) {
+    host::print_decimal(rt, counts.histories);
+    host::write_all(rt, b" histories, codes 0 to 9:");
+    for given in counts.codes {
+        host::write_all(rt, b" ");
+        host::print_decimal(rt, given);
     }
-}
-
-fn say_counts(rt: &impl Print, counts: &Counts) {
-    say_count(rt, counts, HISTORIES);
-    say(rt, b" histories, codes 0 to 9:");
-    say_codes(rt, counts);
-    say(rt, b"\n");
-    say_count(rt, counts, REQUESTS);
-    say(rt, b" requests, ");
-    say_count(rt, counts, DIFFER);
-    say(rt, b" differ\n");
+    host::write_all(rt, b"\n");
+    host::print_decimal(rt, counts.requests);
+    host::write_all(rt, b" requests, ");
+    host::print_decimal(rt, counts.differ);
+    host::write_all(rt, b" differ\n");
 }
 
 fn main(rt: HostRuntime) {
     let mut space = [0u8; 131072];
-    let mut counts = [0u64; 16];
     let count = host::read_full(&mut rt.stdin(), &mut space);
-    all(&space[..count], &mut counts);
-    say_counts(&rt, &counts);
+    let (lines, _) = space[..count].as_chunks::<LINE>();
+    say(&rt, &try_lines(lines));
 }

@@ -6,7 +6,6 @@ use mathlib.Core.Bool.{Bool, true, ◌&&◌, cond}
 use mathlib.Core.List.{List}
 use Prim.Native.Nat.{ℕ, ◌+◌, ◌-◌, ◌*◌, ◌%◌, ◌^◌, ◌<◌, zero-le}
 use native.Mathlib.Nat.{lt_of_le_of_lt}
-use native.Mathlib.Omega.{arith}
 use lib.Bits.{bit_or, bit_and, and_le_l}
 use lib.Count.{ones}
 use lib.Dec.{ltb, eqb}
@@ -35,33 +34,27 @@ crowd_count free ports p fits =
     mine = get_or ports p 0
 
 -- the slot's mark is taken out of the three masks, one after the other, and put into the port's
-module _ (ports : List ℕ) (p s : ℕ) (long : length ports ≡ 3) (hp : p < 3) (hs : s < 32) where
-  abbrev mark : ℕ
-  mark = 1 * 2 ^ s % 2 ^ 32
+abbrev pub Struck : List ℕ → ℕ → ℕ → List ℕ → Type 0
+Struck ports s i l = Rewritten 3 (λ k. ltb k i) (λ x. without x s) ports l
 
-  abbrev struck : List ℕ → ℕ → List ℕ
-  struck l i = set l i (bit_and (get_or l i 0) (2 ^ 32 - 1 - mark))
+pub strike_begins : (ports : List ℕ) (s : ℕ) → length ports ≡ 3 → Struck ports s 0 ports
+strike_begins ports s long = rewritten_start long (λ k. le-ltb k 0 zero-le)
 
-  abbrev Done : ℕ → List ℕ → Type 0
-  Done i l = Rewritten 3 (λ k. ltb k i) (λ x. without x s) ports l
+-- the slot's mark, as the code makes it
+abbrev mark : ℕ → ℕ
+mark s = 1 * 2 ^ s % 2 ^ 32
 
-  turn : {i : ℕ} {l : List ℕ} → Done i l → i < 3 → get_or l i 0 < 2 ^ 32 → Done (i + 1) (struck l i)
-  turn {i} {l} d q fits = rewritten_turn (count_adds i) d q (and_others 32 (get_or l i 0) s fits hs)
+module _ {ports : List ℕ} {s : ℕ} (hs : s < 32) where
+  pub strike_turn : {i : ℕ} {l : List ℕ} → Struck ports s i l → i < 3 → get_or l i 0 < 2 ^ 32 → Struck ports s (i + 1) (set l i (bit_and (get_or l i 0) (2 ^ 32 - 1 - mark s)))
+  strike_turn {i} {l} d q fits = rewritten_turn (count_adds i) d q (and_others 32 (get_or l i 0) s fits hs)
 
-  pub put_under : get_or ports 0 0 < 2 ^ 32 → get_or (struck ports 0) 1 0 < 2 ^ 32 → get_or (struck (struck ports 0) 1) 2 0 < 2 ^ 32
-      → let l = struck (struck (struck ports 0) 1) 2 in set l p (bit_or (get_or l p 0) mark) ≡ under ports p s
-  put_under f₀ f₁ f₂ =
-      set_tab l p (bit_or (get_or l p 0) mark) all.long hp (λ q h. there q h)
-      ∙ tab_same 3 (λ q. cond (eqb q p) (bit_or (get_or l p 0) mark) (without (get_or ports q 0) s)) _ (λ q h.
-      by_test (λ (b : Bool). cond b (bit_or (get_or l p 0) mark) (without (get_or ports q 0) s) ≡ cond b (bit_or (without (get_or ports q 0) s) (2 ^ s)) (without (get_or ports q 0) s)) (eq_test q p)
+  pub put_under : {p : ℕ} {l : List ℕ} → p < 3 → Struck ports s 3 l → set l p (bit_or (get_or l p 0) (mark s)) ≡ under ports p s
+  put_under {p} {l} hp all =
+      set_tab l p (bit_or (get_or l p 0) (mark s)) all.long hp (λ q h. there q h)
+      ∙ tab_same 3 (λ q. cond (eqb q p) (bit_or (get_or l p 0) (mark s)) (without (get_or ports q 0) s)) _ (λ q h.
+      by_test (λ (b : Bool). cond b (bit_or (get_or l p 0) (mark s)) (without (get_or ports q 0) s) ≡ cond b (bit_or (without (get_or ports q 0) s) (2 ^ s)) (without (get_or ports q 0) s)) (eq_test q p)
       (λ e. ap₂ (λ (x y : ℕ). bit_or x y) (there p hp ∙ ap (λ (k : ℕ). without (get_or ports k 0) s) (sym e)) (shl_one 32 hs))
       (λ n. refl))
     where
-      l : List ℕ
-      l = struck (struck (struck ports 0) 1) 2
-
-      all : Done 3 l
-      all = turn (turn (turn (rewritten_start long (λ k. le-ltb k 0 zero-le)) (omega arith) f₀) (omega arith) f₁) (omega arith) f₂
-
       there : (q : ℕ) → q < 3 → get_or l q 0 ≡ without (get_or ports q 0) s
       there = changed_end (λ q. true) (λ q h. lt-ltb q 3 h) all.rows

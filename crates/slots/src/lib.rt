@@ -3,28 +3,30 @@
 // `network` shares with it is public too. The crate `arbiter` keeps the state by value over them, runs many requests, and has what C and Rust link.
 #![tactic(auto)]
 
-ghost use Rattle.std.specs.Prelude.{◌≡◌, ◌&&◌, List, ℕ, ◌%◌, ◌<◌};
-ghost use Rattle.std.specs.Int.Count.{count_trailing_zeros};
+ghost use Rattle.std.specs.Prelude.{◌≡◌, List, ℕ, ◌%◌, ◌<◌, position, eqb};
 ghost use Rattle.marks.specs.Marks.{mask_of};
 ghost use Rattle.history.specs.Formats.{request_of};
-ghost use Rattle.history.specs.Replies.{an_open, an_end, an_abandon, a_publish};
+ghost use Rattle.history.specs.Replies.{Reply, an_open, an_end, an_abandon, a_publish};
 ghost use Rattle.late.specs.Late.{asks, publishes};
 ghost use Rattle.rows.specs.Rows.{kind_of};
-ghost use Rattle.slots.specs.Lent.{lent, numbered, crowd_of, under, Does, Asks, Steps, Lates};
-ghost use Rattle.slots.specs.Finds.{holds, reaches, circled};
+ghost use Rattle.slots.specs.Lent.{lent, refusal_code, reply_by, packed, crowd_of, under, Does, Asks, Steps, Lates};
+ghost use Rattle.slots.specs.Finds.{holds, slot_with, reaches, circled};
+ghost use Rattle.slots.specs.Requests.{NamesKind, Reads};
+ghost use Rattle.slots.specs.declared.Refusal.TheVariants.{NoCell};
 
-use cells::{Cell, CellSet};
+use cells::{Cell, CellSet, NoSuchCell};
 pub use rows::Slot;
 use rows::{Deed, end_slot, has_altered, leave_slot, open_slot, step_slot, touching, write_set};
 
 // The number of a job, issued once.
-#[derive(Clone, Copy)]
+#[derive(Clone, Copy, Debug, PartialEq, Eq)]
 pub struct JobNumber(pub u32);
 
-// What the arbiter answers: a grant with the job, or one of the refusals.
-#[derive(Clone, Copy)]
-pub enum Answer {
-    Granted(JobNumber),
+// ---- answers
+
+// Why a request is refused.
+#[derive(Clone, Copy, Debug, PartialEq, Eq)]
+pub enum Refusal {
     Malformed,
     NoCell,
     NotOpen,
@@ -36,50 +38,155 @@ pub enum Answer {
     PortFull,
 }
 
-impl Answer {
-    // Document 01's code; 8 and 9 are those of document 02, order 9.
-    pub fn code(self) -> u32
-        ensures { result ≡ (numbered self).code }
-    {
-        match self {
-            Answer::Granted(_) => 0,
-            Answer::Malformed => 1,
-            Answer::NoCell => 2,
-            Answer::NotOpen => 3,
-            Answer::HasWritten => 4,
-            Answer::Full => 5,
-            Answer::Spent => 6,
-            Answer::Circle => 7,
-            Answer::NoPort => 8,
-            Answer::PortFull => 9,
-        }
-    }
+// What a refusal is told by: its code. The crate `locking` has refusals of another kind. It is not `Told` of `codes`: a refusal here has no place, and is answered with job 0.
+pub trait Refuses: Copy {
+    ghost number: { Self → ℕ };
 
-    // The job of a grant, and job 0 for a refusal.
-    pub fn job(self) -> JobNumber
-        ensures { result.0 ≡ (numbered self).job }
-    {
+    fn code(self) -> u32
+        ensures { result ≡ number self };
+}
+
+impl Refuses for Refusal {
+    ghost number = { refusal_code };
+
+    // Document 01's code; 8 and 9 are those of document 02, order 9.
+    fn code(self) -> u32 {
         match self {
-            Answer::Granted(job) => job,
-            Answer::Malformed => JobNumber(0),
-            Answer::NoCell => JobNumber(0),
-            Answer::NotOpen => JobNumber(0),
-            Answer::HasWritten => JobNumber(0),
-            Answer::Full => JobNumber(0),
-            Answer::Spent => JobNumber(0),
-            Answer::Circle => JobNumber(0),
-            Answer::NoPort => JobNumber(0),
-            Answer::PortFull => JobNumber(0),
+            Refusal::Malformed => 1,
+            Refusal::NoCell => 2,
+            Refusal::NotOpen => 3,
+            Refusal::HasWritten => 4,
+            Refusal::Full => 5,
+            Refusal::Spent => 6,
+            Refusal::Circle => 7,
+            Refusal::NoPort => 8,
+            Refusal::PortFull => 9,
         }
     }
 }
 
-// What a request leaves beside the arrays: the next number, the free slots and the answer.
-#[derive(Clone, Copy)]
-pub struct Moved {
-    pub next: u64,
-    pub free: u32,
-    pub answer: Answer,
+// A step on a number that is no cell is refused so.
+impl From<NoSuchCell> for Refusal {
+    ghost from_gives = { λ _ refusal. refusal ≡ NoCell };
+
+    fn from(_none: NoSuchCell) -> Refusal {
+        Self::NoCell
+    }
+}
+
+// What the arbiter answers: a grant with the job, or one of the refusals.
+pub type Answer = Result<JobNumber, Refusal>;
+
+// What an answer is told by: its code and its job.
+pub trait Replied: Copy {
+    ghost reply: { Self → Reply };
+
+    fn code(self) -> u32
+        ensures { result ≡ (reply self).code };
+
+    fn job(self) -> JobNumber
+        ensures { result.0 ≡ (reply self).job };
+}
+
+impl<E: Refuses> Replied for Result<JobNumber, E> {
+    ghost reply = { reply_by E.number };
+
+    // Code 0 for a grant.
+    fn code(self) -> u32 {
+        match self {
+            Ok(_) => 0,
+            Err(refusal) => refusal.code(),
+        }
+    }
+
+    // The job of a grant, and job 0 for a refusal.
+    fn job(self) -> JobNumber {
+        match self {
+            Ok(job) => job,
+            Err(_) => JobNumber(0),
+        }
+    }
+}
+
+// An answer in one number: code times 2^32 plus job. Not by `in_one` of `codes`, whose sum is modulo 2^64: `packed` is of a `Reply`. A product and a sum, as `packed` says it.
+#[tactic(auto, unfolding(crate::specs::Lent::packed))]
+pub fn in_one<A: Replied>(answer: A) -> u64
+    ensures { result ≡ packed (A.reply answer) }
+{
+    (answer.code() as u64) * 4294967296 + (answer.job().0 as u64)
+}
+
+// ---- requests
+
+// What a request asks for.
+#[derive(Clone, Copy, Debug, PartialEq, Eq)]
+pub enum Kind {
+    Open,
+    Read,
+    Write,
+    End,
+    Abandon,
+    Publish,
+    Add,
+}
+
+impl TryFrom<u8> for Kind {
+    type Error = Refusal;
+
+    ghost try_from_gives = { NamesKind };
+
+    fn try_from(number: u8) -> Result<Kind, Refusal> {
+        match number {
+            1 => Ok(Kind::Open),
+            2 => Ok(Kind::Read),
+            3 => Ok(Kind::Write),
+            4 => Ok(Kind::End),
+            5 => Ok(Kind::Abandon),
+            6 => Ok(Kind::Publish),
+            7 => Ok(Kind::Add),
+            _ => Err(Refusal::Malformed),
+        }
+    }
+}
+
+// A well-formed request. The job field of an open names the port.
+#[derive(Clone, Copy, Debug, PartialEq, Eq)]
+pub struct Request {
+    pub kind: Kind,
+    pub cell: u32,
+    pub job: JobNumber,
+}
+
+// The cell field of a request, and its job field, low byte first.
+pub fn cell_in(request: [u8; 8]) -> u32
+    ensures { result ≡ (request_of request).cell }
+{
+    u32::from(u16::from_le_bytes([request[2], request[3]]))
+}
+
+pub fn job_in(request: [u8; 8]) -> JobNumber
+    ensures { result.0 ≡ (request_of request).job }
+{
+    JobNumber(u32::from_le_bytes([request[4], request[5], request[6], request[7]]))
+}
+
+// Of eight bytes: the kind, one that is 0, two of cell and four of job.
+impl TryFrom<[u8; 8]> for Request {
+    type Error = Refusal;
+
+    ghost try_from_gives = { λ bytes outcome. Reads (request_of bytes) outcome };
+
+    fn try_from(bytes: [u8; 8]) -> Result<Request, Refusal> {
+        let kind = Kind::try_from(bytes[0])?;
+        if bytes[1] != 0 {
+            return Err(Refusal::Malformed);
+        }
+        Ok(Request {
+            kind,
+            cell: cell_in(bytes),
+            job: job_in(bytes),
+        })
+    }
 }
 
 // ---- what is looked for
@@ -89,34 +196,37 @@ fn holding(free: u32, numbers: &[u32; 32], job: JobNumber) -> u32
     ensures { result ≡ mask_of 32 (holds free numbers.now job.0) }
 {
     let mut found: u32 = 0;
-    let mut i: u32 = 0;
-    while i < 32 {
-        if numbers[i as usize] == job.0 {
+    for (i, number) in numbers.iter().enumerate() {
+        if *number == job.0 {
             found |= 1u32 << i;
         }
-        i += 1;
     }
     found & !free
 }
 
-// The lowest open slot that holds the number, or 32. The lowest slot of all that holds it is nearly always open; only where it is not, every number is looked at.
-pub fn slot_for(free: u32, numbers: &[u32; 32], job: JobNumber) -> u32
-    ensures { result ≡ count_trailing_zeros 32 (mask_of 32 (holds free numbers.now job.0)) }
+// The lowest slot of all that holds the number, open or not.
+fn first_holding(numbers: &[u32; 32], job: JobNumber) -> Option<usize>
+    ensures { result ≡ position (λ n. eqb n job.0) numbers.now }
 {
-    let mut i: u32 = 0;
-    while i < 32 {
-        if numbers[i as usize] == job.0 {
-            if free & (1u32 << i) == 0 {
-                return i;
-            }
-            return u32::trailing_zeros(holding(free, numbers, job));
-        }
-        i += 1;
-    }
-    32
+    numbers.iter().position(|number| *number == job.0)
 }
 
-// The open slots reached from the slot by one lead or more, over open slots.
+// The lowest open slot that holds the number. The lowest slot of all that holds it is nearly always open; only where it is not, every number is looked at.
+pub fn slot_for(free: u32, numbers: &[u32; 32], job: JobNumber) -> Option<Slot>
+    ensures { result ≡ slot_with free numbers.now job.0 }
+{
+    let first = first_holding(numbers, job)?;
+    if free & (1u32 << first) == 0 {
+        return Some(Slot(first as u32));
+    }
+    let found = holding(free, numbers, job);
+    if found == 0 {
+        return None;
+    }
+    Some(Slot(found.trailing_zeros()))
+}
+
+// The open slots reached from the slot by one lead or more, over open slots. What is left to do grows while it is done: there is no count to go by, and no list to go through.
 fn reached(free: u32, leads: &[u32; 32], slot: Slot) -> u32
     requires { slot.0 < 32 }
     ensures { result ≡ mask_of 32 (reaches free leads.now slot.0) }
@@ -124,7 +234,7 @@ fn reached(free: u32, leads: &[u32; 32], slot: Slot) -> u32
     let mut seen = leads[slot.0 as usize] & !free;
     let mut todo = seen;
     while todo != 0 {
-        let i = u32::trailing_zeros(todo);
+        let i = todo.trailing_zeros();
         let fresh = leads[i as usize] & !free & !seen;
         seen |= fresh;
         todo = (todo & (todo - 1)) | fresh;
@@ -132,41 +242,14 @@ fn reached(free: u32, leads: &[u32; 32], slot: Slot) -> u32
     seen
 }
 
-// Is there a chain from the slot back to it, over open slots, once the slots of the mask lead to it? False where nobody asks.
-pub fn closes(asked: bool, free: u32, leads: &[u32; 32], slot: Slot, from: u32) -> bool
-    ensures { result ≡ asked && circled free leads.now (slot.0 % 32) from }
+// Is there a chain from the slot back to it, over open slots, once the slots of the mask lead to it?
+pub fn closes(free: u32, leads: &[u32; 32], slot: Slot, from: u32) -> bool
+    ensures { result ≡ circled free leads.now (slot.0 % 32) from }
 {
-    if !asked {
-        return false;
-    }
     let own = Slot(slot.0 % 32);
     let seen = reached(free, leads, own);
     let me = 1u32 << own.0;
     (seen & me) | ((seen | me) & from) != 0
-}
-
-// ---- how a request ends
-
-// A refusal: nothing moves.
-fn refused(next: u64, free: u32, answer: Answer) -> Moved
-    ensures { (result.next ≡ next) × (result.free ≡ free) × (result.answer ≡ answer) }
-{
-    Moved {
-        next: next,
-        free: free,
-        answer: answer,
-    }
-}
-
-// A grant to a job, with the free slots that it leaves.
-fn granted(next: u64, free: u32, job: JobNumber) -> Moved
-    ensures { (result.next ≡ next) × (result.free ≡ free) × (numbered result.answer ≡ record { code = 0; job = job.0 }) }
-{
-    Moved {
-        next: next,
-        free: free,
-        answer: Answer::Granted(job),
-    }
 }
 
 // ---- the ports, each with a mask of its slots
@@ -176,7 +259,7 @@ fn crowd(free: u32, ports: &[u32; 3], port: u32) -> u32
     requires { port < 3 }
     ensures { result ≡ crowd_of free ports.now port }
 {
-    u32::count_ones(!free & ports[port as usize])
+    (!free & ports[port as usize]).count_ones()
 }
 
 // The slot goes under its port, and under no other.
@@ -185,55 +268,51 @@ fn put_under(ports: &mut [u32; 3], port: u32, slot: Slot)
     ensures { ports.new ≡ under ports.old port slot.0 }
 {
     let mark = 1u32 << slot.0;
-    let masks = &mut ports[..];
-    masks[0] &= !mark;
-    masks[1] &= !mark;
-    masks[2] &= !mark;
-    masks[port as usize] |= mark;
+    for mask in ports.iter_mut() {
+        *mask &= !mark;
+    }
+    ports[port as usize] |= mark;
 }
 
-// ---- one request of each kind. Where no ports are lent they stay, whatever they are
+// ---- one request of each kind. The state is lent part by part, as `reedtangle_step` of the crate `arbiter` lends it from C; a function is lent only what it changes, and what it only looks at it
+// has by value or by a shared reference. A refusal leaves all as it was. What is not lent stays, whatever it is.
 
 // The job field of an open names the port.
 pub fn open_job(
-    next: u64,
-    free: u32,
+    next: &mut u64,
+    free: &mut u32,
     numbers: &mut [u32; 32],
     leads: &mut [u32; 32],
     sets: &mut [u64; 512],
     ports: &mut [u32; 3],
     port: u32,
-) -> Moved
-    ensures { Does (lent next free numbers.old leads.old sets.old ports.old) an_open port 0 result numbers.new leads.new sets.new ports.new }
+) -> Answer
+    ensures { Does (lent next.old free.old numbers.old leads.old sets.old ports.old) an_open port 0 result (lent next.new free.new numbers.new leads.new sets.new ports.new) }
 {
-    if 4294967296 <= next {
-        return refused(next, free, Answer::Spent);
-    }
+    let Ok(number) = u32::try_from(*next) else {
+        return Err(Refusal::Spent);
+    };
     if 3 <= port {
-        return refused(next, free, Answer::NoPort);
+        return Err(Refusal::NoPort);
     }
-    if u32::count_ones(free) == 0 {
-        return refused(next, free, Answer::Full);
+    let spare = *free;
+    if spare.count_ones() == 0 {
+        return Err(Refusal::Full);
     }
-    if 16 <= crowd(free, ports, port) {
-        return refused(next, free, Answer::PortFull);
+    if 16 <= crowd(spare, ports, port) {
+        return Err(Refusal::PortFull);
     }
-    let slot = Slot(u32::trailing_zeros(free));
-    let number = (next % 4294967296) as u32;
-    let rows = &mut numbers[..];
-    rows[slot.0 as usize] = number;
+    let slot = Slot(spare.trailing_zeros());
+    numbers[slot.0 as usize] = number;
     put_under(ports, port, slot);
-    let taken = open_slot(free, leads, sets, slot);
-    Moved {
-        next: next + 1,
-        free: taken,
-        answer: Answer::Granted(JobNumber(number)),
-    }
+    *free = open_slot(spare, leads, sets, slot);
+    *next += 1;
+    Ok(JobNumber(number))
 }
 
-// A step, which is tested for a circle where that is asked. In the second profile a read is not: it is tested for its cell and its job alone.
+// Those below begin alike, with the look for the job's slot, and differ in what they do with it. A step is tested for a circle where that is asked, as `Asks` says. In the second profile a read is not: it is tested for its cell and its job alone.
+// `asked` is a flag: a closure in its place would have to be shown to be `closes` or nothing, which is what `asked` says.
 fn step_job(
-    next: u64,
     free: u32,
     numbers: &[u32; 32],
     leads: &mut [u32; 32],
@@ -242,186 +321,131 @@ fn step_job(
     job: JobNumber,
     cell: u32,
     asked: bool,
-) -> Moved
-    ensures { (ports : List ℕ) → Asks (lent next free numbers.now leads.old sets.old ports) asked (kind_of deed) job.0 cell result numbers.now leads.new sets.new ports }
+) -> Answer
+    ensures { (next : ℕ) → (ports : List ℕ) → Asks (lent next free numbers.now leads.old sets.old ports) asked (kind_of deed) job.0 cell result (lent next free numbers.now leads.new sets.new ports) }
 {
-    if 256 <= cell {
-        return refused(next, free, Answer::NoCell);
+    let cell = Cell::try_from(cell)?;
+    let slot = slot_for(free, numbers, job).ok_or(Refusal::NotOpen)?;
+    let touched = touching(free, sets, slot, deed, cell);
+    if asked && closes(free, leads, slot, touched) {
+        return Err(Refusal::Circle);
     }
-    let at = slot_for(free, numbers, job);
-    if 32 <= at {
-        return refused(next, free, Answer::NotOpen);
-    }
-    let slot = Slot(at);
-    let real = Cell((cell % 256) as u8);
-    let touched = touching(free, sets, slot, deed, real);
-    if closes(asked, free, leads, slot, touched) {
-        return refused(next, free, Answer::Circle);
-    }
-    step_slot(leads, sets, slot, deed, real, touched);
-    granted(next, free, job)
+    step_slot(leads, sets, slot, deed, cell, touched);
+    Ok(job)
 }
 
 fn end_job(
-    next: u64,
-    free: u32,
+    free: &mut u32,
     numbers: &mut [u32; 32],
     leads: &mut [u32; 32],
     sets: &mut [u64; 512],
     job: JobNumber,
-) -> Moved
-    ensures { (ports : List ℕ) → Does (lent next free numbers.old leads.old sets.old ports) an_end job.0 0 result numbers.new leads.new sets.new ports }
+) -> Answer
+    ensures { (next : ℕ) → (ports : List ℕ) → Does (lent next free.old numbers.old leads.old sets.old ports) an_end job.0 0 result (lent next free.new numbers.new leads.new sets.new ports) }
 {
-    let at = slot_for(free, numbers, job);
-    if 32 <= at {
-        return refused(next, free, Answer::NotOpen);
-    }
-    let left = end_slot(free, numbers, leads, sets, Slot(at));
-    granted(next, left, job)
+    let slot = slot_for(*free, numbers, job).ok_or(Refusal::NotOpen)?;
+    *free = end_slot(*free, numbers, leads, sets, slot);
+    Ok(job)
 }
 
 fn abandon_job(
-    next: u64,
-    free: u32,
+    free: &mut u32,
     numbers: &mut [u32; 32],
     leads: &mut [u32; 32],
     sets: &mut [u64; 512],
     job: JobNumber,
-) -> Moved
-    ensures { (ports : List ℕ) → Does (lent next free numbers.old leads.old sets.old ports) an_abandon job.0 0 result numbers.new leads.new sets.new ports }
+) -> Answer
+    ensures { (next : ℕ) → (ports : List ℕ) → Does (lent next free.old numbers.old leads.old sets.old ports) an_abandon job.0 0 result (lent next free.new numbers.new leads.new sets.new ports) }
 {
-    let at = slot_for(free, numbers, job);
-    if 32 <= at {
-        return refused(next, free, Answer::NotOpen);
+    let slot = slot_for(*free, numbers, job).ok_or(Refusal::NotOpen)?;
+    if has_altered(sets, slot) {
+        return Err(Refusal::HasWritten);
     }
-    if has_altered(sets, Slot(at)) {
-        return refused(next, free, Answer::HasWritten);
-    }
-    let left = leave_slot(free, numbers, leads, sets, Slot(at));
-    granted(next, left, job)
+    *free = leave_slot(*free, numbers, leads, sets, slot);
+    Ok(job)
 }
 
-// The write, and where it was granted the end. Where it was refused, its answer: the job stays open.
+// The write, and where it was granted the end of its job. Where it was refused, its answer: the job stays open.
 fn publish_job(
-    next: u64,
-    free: u32,
+    free: &mut u32,
     numbers: &mut [u32; 32],
     leads: &mut [u32; 32],
     sets: &mut [u64; 512],
     job: JobNumber,
     on: u32,
-) -> Moved
-    ensures { (ports : List ℕ) → Does (lent next free numbers.old leads.old sets.old ports) a_publish job.0 on result numbers.new leads.new sets.new ports }
+) -> Answer
+    ensures { (next : ℕ) → (ports : List ℕ) → Does (lent next free.old numbers.old leads.old sets.old ports) a_publish job.0 on result (lent next free.new numbers.new leads.new sets.new ports) }
 {
-    let written = step_job(next, free, numbers, leads, sets, Deed::Write, job, on, true);
-    let answer = written.answer;
-    if answer.code() != 0 {
-        return written;
-    }
-    end_job(written.next, written.free, numbers, leads, sets, job)
+    let written = step_job(*free, numbers, leads, sets, Deed::Write, job, on, true)?;
+    end_job(free, numbers, leads, sets, written)
 }
 
-fn wide(b: u8) -> u32
-    ensures { (result ≡ b) × (result < 256) }
-{
-    b as u32
-}
-
-// The cell field of a request, and its job field. The crates `locking` and `network` read a request by them too.
-pub fn cell_in(request: [u8; 8]) -> u32
-    ensures { result ≡ (request_of request).cell }
-{
-    wide(request[2]) + wide(request[3]) * 256
-}
-
-pub fn job_in(request: [u8; 8]) -> JobNumber
-    ensures { result.0 ≡ (request_of request).job }
-{
-    JobNumber(
-        wide(request[4])
-            + wide(request[5]) * 256
-            + wide(request[6]) * 65536
-            + wide(request[7]) * 16777216,
-    )
-}
-
-// One request in place: the arrays are lent, the rest goes in and comes back. A refusal leaves every array as it was.
+// One request in place: the state is lent. A refusal leaves all of it as it was.
 pub fn step_in_place(
-    next: u64,
-    free: u32,
+    next: &mut u64,
+    free: &mut u32,
     numbers: &mut [u32; 32],
     leads: &mut [u32; 32],
     sets: &mut [u64; 512],
     ports: &mut [u32; 3],
     request: [u8; 8],
-) -> Moved
-    ensures { Steps (lent next free numbers.old leads.old sets.old ports.old) (request_of request) result numbers.new leads.new sets.new ports.new }
+) -> Answer
+    ensures { Steps (lent next.old free.old numbers.old leads.old sets.old ports.old) (request_of request) result (lent next.new free.new numbers.new leads.new sets.new ports.new) }
 {
-    if request[1] != 0 {
-        return refused(next, free, Answer::Malformed);
-    }
-    let kind = request[0];
-    let on = cell_in(request);
-    let job = job_in(request);
-    match kind {
-        1 => open_job(next, free, numbers, leads, sets, ports, job.0),
-        2 => step_job(next, free, numbers, leads, sets, Deed::Read, job, on, true),
-        3 => step_job(next, free, numbers, leads, sets, Deed::Write, job, on, true),
-        4 => end_job(next, free, numbers, leads, sets, job),
-        5 => abandon_job(next, free, numbers, leads, sets, job),
-        6 => publish_job(next, free, numbers, leads, sets, job, on),
-        7 => step_job(next, free, numbers, leads, sets, Deed::Add, job, on, true),
-        _ => refused(next, free, Answer::Malformed),
+    let asked = Request::try_from(request)?;
+    let job = asked.job;
+    let on = asked.cell;
+    match asked.kind {
+        Kind::Open => open_job(next, free, numbers, leads, sets, ports, job.0),
+        Kind::Read => step_job(*free, numbers, leads, sets, Deed::Read, job, on, true),
+        Kind::Write => step_job(*free, numbers, leads, sets, Deed::Write, job, on, true),
+        Kind::End => end_job(free, numbers, leads, sets, job),
+        Kind::Abandon => abandon_job(free, numbers, leads, sets, job),
+        Kind::Publish => publish_job(free, numbers, leads, sets, job, on),
+        Kind::Add => step_job(*free, numbers, leads, sets, Deed::Add, job, on, true),
     }
 }
 
 // ---- the second profile
 
-// One request of the second profile in place: an open, a read or an abandon. A refusal leaves every array as it was.
+// One request of the second profile in place: an open, a read or an abandon. A refusal leaves all as it was.
 pub fn late_in_place(
-    next: u64,
-    free: u32,
+    next: &mut u64,
+    free: &mut u32,
     numbers: &mut [u32; 32],
     leads: &mut [u32; 32],
     sets: &mut [u64; 512],
     ports: &mut [u32; 3],
-    asked: [u8; 8],
-) -> Moved
-    ensures { Lates (lent next free numbers.old leads.old sets.old ports.old) (asks (request_of asked)) result numbers.new leads.new sets.new ports.new }
+    request: [u8; 8],
+) -> Answer
+    ensures { Lates (lent next.old free.old numbers.old leads.old sets.old ports.old) (asks (request_of request)) result (lent next.new free.new numbers.new leads.new sets.new ports.new) }
 {
-    if asked[1] != 0 {
-        return refused(next, free, Answer::Malformed);
-    }
-    let kind = asked[0];
-    let on = cell_in(asked);
-    let by = job_in(asked);
-    match kind {
-        1 => open_job(next, free, numbers, leads, sets, ports, by.0),
-        2 => step_job(next, free, numbers, leads, sets, Deed::Read, by, on, false),
-        5 => abandon_job(next, free, numbers, leads, sets, by),
-        _ => refused(next, free, Answer::Malformed),
+    let asked = Request::try_from(request)?;
+    let by = asked.job;
+    let on = asked.cell;
+    match asked.kind {
+        Kind::Open => open_job(next, free, numbers, leads, sets, ports, by.0),
+        Kind::Read => step_job(*free, numbers, leads, sets, Deed::Read, by, on, false),
+        Kind::Abandon => abandon_job(free, numbers, leads, sets, by),
+        _ => Err(Refusal::Malformed),
     }
 }
 
-// The publish of the second profile in place: the writes of a cell set and the end. Where the writes are refused every array stays as it was.
+// The publish of the second profile in place: the writes of a cell set and the end. It opens nothing, so that no next number is lent. Where the writes are refused all stays as it was.
 pub fn publish_in_place(
-    next: u64,
-    free: u32,
+    free: &mut u32,
     numbers: &mut [u32; 32],
     leads: &mut [u32; 32],
     sets: &mut [u64; 512],
     job: JobNumber,
     cells: CellSet,
-) -> Moved
-    ensures { (ports : List ℕ) → Lates (lent next free numbers.old leads.old sets.old ports) (publishes job.0 cells.words) result numbers.new leads.new sets.new ports }
+) -> Answer
+    ensures { (next : ℕ) → (ports : List ℕ) → Lates (lent next free.old numbers.old leads.old sets.old ports) (publishes job.0 cells.words) result (lent next free.new numbers.new leads.new sets.new ports) }
 {
-    let at = slot_for(free, numbers, job);
-    if 32 <= at {
-        return refused(next, free, Answer::NotOpen);
+    let slot = slot_for(*free, numbers, job).ok_or(Refusal::NotOpen)?;
+    if write_set(*free, leads, sets, slot, cells) {
+        return Err(Refusal::Circle);
     }
-    if write_set(free, leads, sets, Slot(at), cells) {
-        return refused(next, free, Answer::Circle);
-    }
-    let left = end_slot(free, numbers, leads, sets, Slot(at));
-    granted(next, left, job)
+    *free = end_slot(*free, numbers, leads, sets, slot);
+    Ok(job)
 }

@@ -1,7 +1,9 @@
 -- Bytes: four that are put down or read, a run put down after another (`put_next`), and the words before a place.
 -- Assumes nothing.
-use Rattle.std.specs.Prelude.{◌≡◌, ℕ, suc, ◌+◌, ◌*◌, ◌/◌, ◌%◌, ◌<◌, ◌≤◌, false, List, [], ◌∷◌, ◌++◌, length, take, drop, set, replicate, ◌≢◌, nat_eq, slice_index, slice_set, refl}
-use Rattle.std.proofs.Common.{sym, ap, ap₂, ◌∙◌, append_assoc, append-nil, zero-add, add-zero, add-one, arith, length-append, length-drop, take-append-drop, length-take-le, take_at, drop_at, get_or-drop, drop-drop, take-add}
+use Rattle.std.specs.Prelude.{◌≡◌, ℕ, suc, ◌+◌, ◌*◌, ◌/◌, ◌%◌, ◌<◌, ◌≤◌, zero, false, List, [], ◌∷◌, ◌++◌, length, take, drop, set, replicate, ◌≢◌, nat_eq, slice_index, slice_set, slice_index_or, refl}
+use Rattle.std.specs.Int.{w8, w32, from_le_bytes}
+use Rattle.std.specs.Simd.{first_chunks}
+use Rattle.std.proofs.Common.{Fits, sym, ap, ap₂, ◌∙◌, append_assoc, append-nil, zero-add, add-zero, add-one, arith, length-append, length-drop, take-append-drop, length-take-le, take_at, drop_at, get_or-drop, drop-drop, take-add}
 use Rattle.std.proofs.lemmas.List.{length-replicate, get_or-replicate}
 use Rattle.std.proofs.Math.Seq.{take-length, take-append_seam, drop-append_seam, paste, paste-suc}
 use Rattle.std.proofs.lemmas.List.Edits.{sets-eq}
@@ -10,7 +12,7 @@ use Rattle.text.specs.LaysLaws.{lays_room}
 use Rattle.graph.specs.Decide.{and_test, own_test, eq_test, test_false, every_of}
 use Rattle.history.specs.Formats.{bytes_of}
 use Rattle.blocks.specs.Blocks.{words, total, running, sums, done}
-use Rattle.blocks.specs.WordLaws.{words_append, first_turn, second_turn, word_of_bytes}
+use Rattle.blocks.specs.WordLaws.{words_append, first_turn, second_turn, bytes_of_word, word_of_bytes}
 use Rattle.sums.specs.Sums.{AddsUp, with_run}
 
 -- ---- four bytes
@@ -37,6 +39,23 @@ first_four (a ∷ b ∷ c ∷ []) h = absurd (omega arith)
 
 pub four_out : (l : List ℕ) (at : ℕ) → at + 4 ≤ length l → slice_index l at ∷ slice_index l (at + 1) ∷ slice_index l (at + 2) ∷ slice_index l (at + 3) ∷ [] ≡ take 4 (drop at l)
 four_out l at h = let r : 4 ≤ length (drop at l) = simp length-drop (omega arith) in simp (get_or-drop, add-zero) at (first_four (drop at l) r)
+
+-- a number that is read from four bytes has those bytes
+pub word_read : (l w : List ℕ) (at r : ℕ) → at + 4 ≤ length l → ((i : ℕ) → Fits w8 (slice_index l i)) → w ≡ take 4 (drop at l) → r ≡ from_le_bytes w32 w
+    → bytes_of 4 r ≡ take 4 (drop at l)
+word_read l w at r h small is read =
+    let four = four_out l at h in
+    ap (bytes_of 4) (read ∙ ap (from_le_bytes w32) (is ∙ sym four))
+    ∙ bytes_of_word (small at).fits (small (at + 1)).fits (small (at + 2)).fits (small (at + 3)).fits
+    ∙ four
+
+-- of the chunks of four bytes, one by its place
+pub chunk_at : (k i : ℕ) (l : List ℕ) → i < k → slice_index_or (first_chunks 4 k l) i [] ≡ take 4 (drop (i * 4) l)
+chunk_at zero i l h = absurd (omega arith)
+chunk_at (suc k) zero l h = refl
+chunk_at (suc k) (suc i) l h =
+    let on : 4 + i * 4 ≡ suc i * 4 = omega arith in
+    chunk_at k i (drop 4 l) (omega arith) ∙ ap (take 4) (drop-drop (i * 4) 4 l ∙ ap (λ (j : ℕ). drop j l) on)
 
 -- the number of four bytes, which two numbers do not share
 pub same_number : (x y : ℕ) → x < 4294967296 → y < 4294967296 → bytes_of 4 x ≡ bytes_of 4 y → x ≡ y

@@ -1,36 +1,16 @@
--- A text put byte by byte, and the digits of a number from the last on.
+-- The digits of a number, put from the last on.
 -- Assumes nothing.
-use mathlib.Core.Path.{◌≡◌, refl, sym, ap, subst, ◌∙◌}
+use mathlib.Core.Path.{◌≡◌, refl, sym, ap, ◌∙◌}
 use mathlib.Core.List.{List, [], ◌∷◌, ◌++◌, append_assoc}
-use Prim.Native.Nat.{ℕ, suc, ◌+◌, ◌-◌, ◌*◌, ◌/◌, ◌%◌, ◌≤◌, ◌<◌}
-use native.Mathlib.Nat.{add-zero}
+use Prim.Native.Nat.{ℕ, suc, ◌+◌, ◌-◌, ◌/◌, ◌%◌, ◌≤◌, ◌<◌}
 use native.Mathlib.Numerals.{add-one}
 use native.Mathlib.Omega.{arith}
-use lib.ListN.{length, get_or, take, drop, set, length-set, take-append-drop}
-use lib.Seq.{drop-set-lt, drop-cons, get_or-set_same, take-set-le, take-suc, take_all}
+use lib.ListN.{length, take, drop, set, length-set, take-append-drop}
+use lib.Seq.{drop-set-lt, drop-cons, get_or-set_same, take-set-le}
 use Rattle.text.specs.Decimal.{glyph, decimal}
 use Rattle.text.specs.DecimalLaws.{last_of, decimal_last}
 use Rattle.text.specs.Lays.{Lays}
 use Rattle.text.specs.LaysLaws.{laid}
-use Rattle.text.specs.Puts.{Puts, puts_byte, puts_none, puts_then, puts_lays}
-
--- ---- a text, byte by byte
-
-pub puts_nothing : (out : List ℕ) (at : ℕ) → Puts at [] out out (at + 0)
-puts_nothing out at = rw add-zero (puts_none out at)
-
-pub puts_next : {o p : List ℕ} (at i : ℕ) (text : List ℕ) → Puts at (take i text) o p (at + i) → i < length text → at + i < length p
-    → Puts at (take (i + 1) text) o (set p (at + i) (get_or text i 0)) (at + (i + 1))
-puts_next {o} {p} at i text a h k =
-    let e : take i text ++ get_or text i 0 ∷ [] ≡ take (i + 1) text = sym (rw add-one (take-suc text i 0 h)) in
-    subst (λ (x : List ℕ). Puts at x o (set p (at + i) (get_or text i 0)) (at + (i + 1))) e
-    (puts_then a (puts_byte p (at + i) (get_or text i 0) k (omega arith)))
-
-pub text_all : {o p : List ℕ} (at i : ℕ) (text : List ℕ) → Puts at (take i text) o p (at + i) → length text ≤ i → at + i ≤ length o
-    → Lays at text o p (at + i)
-text_all {o} {p} at i text a h k = puts_lays (subst (λ (x : List ℕ). Puts at x o p (at + i)) (take_all i text h) a) k
-
--- ---- a number, from its last digit on
 
 -- the digits that are still to write, with what stands from the place on, make the whole
 pub record Spelled (whole : List ℕ) (at : ℕ) (out₀ out : List ℕ) (i rest : ℕ) : Type 0 where
@@ -56,10 +36,9 @@ stored out i b h =
 
 -- a turn, with the last digit as the code has it
 pub spelled_next : {whole : List ℕ} {at : ℕ} {out₀ out : List ℕ} {i rest : ℕ} → Spelled whole at out₀ out i rest → at < i → i ≤ length out
-    → Spelled whole at out₀ (set out (i - 1) (48 + (rest - rest / 10 * 10))) (i - 1) (rest / 10)
+    → Spelled whole at out₀ (set out (i - 1) (glyph (rest % 10))) (i - 1) (rest / 10)
 spelled_next {whole} {at} {out₀} {out} {i} {rest} p more h =
-    let b = 48 + (rest - rest / 10 * 10) in
-    let d : b ≡ glyph (rest % 10) = omega arith in
+    let b = glyph (rest % 10) in
     let s : i - 1 + 1 ≡ i = omega arith in
     let k : i - 1 - at + 1 ≡ i - at = omega arith in
     let before = last_of (i - 1 - at) (rest / 10) in
@@ -67,7 +46,6 @@ spelled_next {whole} {at} {out₀} {out} {i} {rest} p more h =
       before = take-set-le at out (i - 1) b (omega arith) ∙ p.before;
       done =
           ap (λ (x : List ℕ). before ++ x) (stored out (i - 1) b (omega arith) ∙ ap (λ (j : ℕ). b ∷ drop j out) s)
-          ∙ ap (λ (x : ℕ). before ++ x ∷ drop i out) d
           ∙ sym (append_assoc before (glyph (rest % 10) ∷ []) (drop i out))
           ∙ ap (λ (j : ℕ). last_of j rest ++ drop i out) (sym (add-one (i - 1 - at)) ∙ k)
           ∙ p.done;

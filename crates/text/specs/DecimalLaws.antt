@@ -1,7 +1,8 @@
 -- A number in decimal: how its digits go, that they have the number's value, that none but 0 begins with 0, and how many there are.
 -- Assumes nothing.
 use Rattle.std.specs.Prelude.{◌≡◌, refl, ◌⊎◌, Bool, cond, List, [], ◌∷◌, ◌++◌, ℕ, zero, suc, ◌+◌, ◌-◌, ◌*◌, ◌/◌, ◌%◌, ◌^◌, ◌≤◌, ◌<◌, eqb, length, get_or}
-use Rattle.std.proofs.Common.{sym, ap, ◌∙◌, inl, inr, pow-suc, le_refl, not-suc-le-zero, add-one, arith, length-append}
+use Rattle.std.proofs.Common.{sym, ap, ◌∙◌, inl, inr, pow-suc, le_refl, not-suc-le-zero, add-one, arith, length-append, lit<}
+use Rattle.std.proofs.Math.Nat.{one-le-pow}
 use Rattle.std.proofs.Math.Dec.{eqb-suc-zero}
 use Rattle.text.specs.Decimal.{glyph, leading_in, leading, decimal}
 
@@ -58,6 +59,25 @@ leading_length zero n h =
 leading_length (suc j) n h =
     let p : 10 ^ suc j ≡ 10 ^ j * 10 = pow-suc 10 j in
     longer j n (leading_length j (n / 10) (omega arith))
+
+-- a number that has a power of ten has more digits than that
+leading_least : (k n : ℕ) → 10 ^ k ≤ n → k < length (leading n)
+leading_least zero n h = let e = ap length (leading_more n h) ∙ length-append (leading (n / 10)) (glyph (n % 10) ∷ []) in omega arith
+leading_least (suc k) n h =
+    let p : 10 ^ suc k ≡ 10 ^ k * 10 = pow-suc 10 k in
+    let m = leading_least k (n / 10) (omega arith) in
+    let some : 0 < n = omega (arith, one-le-pow k 10 (lit< tt)) in
+    let e = ap length (leading_more n some) ∙ length-append (leading (n / 10)) (glyph (n % 10) ∷ []) in
+    omega arith
+
+-- how many digits: one more than the largest power of ten in it
+pub decimal_count : (n k : ℕ) → 10 ^ k ≤ n → n < 10 * 10 ^ k → length (decimal n) ≡ k + 1
+decimal_count n k h u =
+    let p : 10 ^ suc k ≡ 10 ^ k * 10 = pow-suc 10 k in
+    let some : 0 < n = omega (arith, one-le-pow k 10 (lit< tt)) in
+    let least = leading_least k n h in
+    let most = leading_length (suc k) n (omega arith) in
+    ap length (decimal_leading n some) ∙ omega arith
 
 pub decimal_length : (n : ℕ) → n < 2 ^ 64 → length (decimal n) ≤ 20
 unfolding decimal

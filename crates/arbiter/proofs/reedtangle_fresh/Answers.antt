@@ -3,4 +3,4 @@ use Rattle.arbiter.proofs.ReplayLaws.{fresh_law}
 use Rattle.arbiter.proofs.reedtangle_fresh.Goals as goal
 
 pub returns : goal.returns
-returns c = fresh_law c.args.first
+returns c = rw c.from.ensures (fresh_law c.args.first)

@@ -4,5 +4,4 @@ use Rattle.arbiter.proofs.ReplayLaws.{told_whole}
 use Rattle.arbiter.proofs.reedtangle_replay.Goals as goal
 
 pub returns : goal.returns
-returns c =
-    told_whole c.replay-r.result c.code.ensures c.place.ensures ∙ c.replay-r.ensures
+returns c = told_whole c.replay.result c.replay.new.answers c.tell.ensures ∙ c.replay.ensures

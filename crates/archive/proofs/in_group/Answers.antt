@@ -3,4 +3,4 @@ use Rattle.archive.proofs.ArchiveLaws.{regrouped}
 use Rattle.archive.proofs.in_group.Goals as goal
 
 pub returns : goal.returns
-returns c = regrouped c.args.request c.wide.ensures.0 c.wide-2.ensures.0
+returns c = regrouped c.args.request c.to_le_bytes-group.result c.from_le_bytes-cell.type_inv c.from_le_bytes-cell.ensures c.to_le_bytes-group.ensures

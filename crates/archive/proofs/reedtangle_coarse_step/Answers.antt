@@ -3,4 +3,4 @@ use Rattle.archive.proofs.ArchiveLaws.{in_one}
 use Rattle.archive.proofs.reedtangle_coarse_step.Goals as goal
 
 pub returns : goal.returns
-returns c = (in_one c.coarse_in_place-m.ensures.0 c.code.ensures c.job.ensures, c.coarse_in_place-m.ensures.1)
+returns c = (in_one c.in_one.ensures c.coarse_in_place.ensures.0, c.coarse_in_place.ensures.1)

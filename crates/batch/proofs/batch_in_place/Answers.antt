@@ -1,5 +1,4 @@
--- `batch::batch_in_place` meets its contract. Assumes nothing.
-use mathlib.Core.Path.{sym, ◌∙◌}
+-- `batch::batch_in_place` meets its contract: a law of RunLaws for each way out. Assumes nothing.
 use mathlib.Core.Logic.{inl, inr}
 use mathlib.Core.List.{List}
 use Prim.Native.Nat.{ℕ}
@@ -19,12 +18,12 @@ returns-then-bytes-gt512 c =
     let held : List ℕ → Held = λ ports. lent c.args.next c.args.free c.args.numbers.now c.args.leads.now c.args.sets.now ports in
     λ ports. batch_length (held ports) c.args.requests.now (inr (omega arith))
 
-pub returns-then-code-ne0 : goal.returns-then-code-ne0
-returns-then-code-ne0 c =
+pub returns-then-is_err : goal.returns-then-is_err
+returns-then-is_err c =
     let held : List ℕ → Held = λ ports. lent c.args.next c.args.free c.args.numbers.now c.args.leads.now c.args.sets.now ports in
-    λ ports. batch_refused (held ports) c.args.requests.now c.if-bytes-ne0.false (omega arith) (c.run-r.ensures ports) (λ z. c.if-code-ne0.true (c.code.ensures ∙ z))
+    λ ports. batch_refused (held ports) c.args.requests.now c.if-bytes-ne0.false (omega arith) (c.run-batched.ensures ports) c.if-is_err.ensures.value
 
-pub returns : goal.returns
-returns c =
+pub returns-else-is_err : goal.returns-else-is_err
+returns-else-is_err c =
     let held : List ℕ → Held = λ ports. lent c.args.next c.args.free c.args.numbers.now c.args.leads.now c.args.sets.now ports in
-    λ ports. batch_granted (held ports) c.args.requests.now c.if-bytes-ne0.false (omega arith) (c.run-r.ensures ports) (sym c.code.ensures ∙ c.if-code-ne0.false)
+    λ ports. batch_granted (held ports) c.args.requests.now c.if-bytes-ne0.false (omega arith) (c.run-batched.ensures ports) c.if-is_err.ensures.value

@@ -1,81 +1,62 @@
-use mathlib.Core.Path.{◌≡◌, refl, ap, ◌∙◌}
-use mathlib.Core.List.{List}
-use Prim.Native.Nat.{ℕ, ◌+◌, ◌*◌, ◌-◌, ◌≤◌, ◌<◌}
-use native.Mathlib.Omega.{arith}
-use lib.ListN.{length, get_or, take, drop}
+use Rattle.std.proofs.Common.{◌≡◌, ◌+◌, ◌*◌, ◌-◌, ℕ, List, length, drop, take, get_or, refl, sym, ap, ◌∙◌, arith}
 use Rattle.blocks.specs.Blocks.{block_at, records_in, first_records}
 use Rattle.sums.specs.Sums.{with_run}
-use Rattle.sums.specs.ByteLaws.{run_put}
-use Rattle.blockreader.proofs.ReadLaws.{count_byte, few_records, records_there, before_length, next_fits, records_turn}
+use Rattle.sums.specs.ByteLaws.{puts, part_put}
+use Rattle.blockreader.proofs.ReadLaws.{block_off, low_count, few_records, records_there, records_length, before_length, next_fits, records_turn}
 use Rattle.blockreader.proofs.copy_records.Goals as goal
 
-pub loop-k-init : goal.loop-k-init
-loop-k-init c = (omega arith, refl, refl)
+pub slice_bounds-copy_from_slice-end : goal.slice_bounds-copy_from_slice-end
+slice_bounds-copy_from_slice-end c =
+    let steps = c.in-Some.ensures.steps in
+    let held = c.loop-k.invariant in
+    let run = c.args.blocks.now in
+    let u = c.requires.0 in
+    let k = c.in-Some.k in
+    let off = block_off c.args.n k run c.in-Some.block.now c.next.new.self.iter.rest.now u.whole held.0 held.1 steps.1 steps.0.1.0 steps.0.1.1 in
+    let low = ap (λ (b : List ℕ). get_or b 4 0) off.this ∙ low_count c.args.n run u k off.inside in
+    let some = records_length c.args.n run u k off.inside in
+    let before = before_length c.args.n run u k off.inside in
+    let fits = next_fits c.args.n run u k off.inside in
+    omega (arith, c.requires.1, held.3)
 
-pub overflow_mul-at : goal.overflow_mul-at
-overflow_mul-at c = omega arith
-
-pub overflow_add-from : goal.overflow_add-from
-overflow_add-from c = omega arith
-
-pub overflow_add-end : goal.overflow_add-end
-overflow_add-end c = omega arith
-
-pub bounds-blocks-at : goal.bounds-blocks-at
-bounds-blocks-at c = omega arith
-
-pub overflow_cast-end : goal.overflow_cast-end
-overflow_cast-end c = omega (arith, c.type_inv.blocks (c.loop-k.k * 512 + 4))
-
-pub overflow_mul-end : goal.overflow_mul-end
-overflow_mul-end c = omega (arith, c.type_inv.blocks (c.loop-k.k * 512 + 4))
-
-pub overflow_add-end-in-loop-k : goal.overflow_add-end-in-loop-k
-overflow_add-end-in-loop-k c = omega (arith, c.type_inv.blocks (c.loop-k.k * 512 + 4))
-
-pub slice_bounds-put_text-count : goal.slice_bounds-put_text-count
-slice_bounds-put_text-count c = omega arith
-
-pub slice_bounds-put_text-end : goal.slice_bounds-put_text-end
-slice_bounds-put_text-end c =
-    let inside : c.loop-k.k < c.args.n = omega arith in
-    let few = few_records c.args.n c.args.blocks.now c.requires.0 c.loop-k.k inside in
-    let same = count_byte c.args.n c.args.blocks.now c.requires.0 c.loop-k.k inside in
-    let whole = c.requires.0.whole in
+pub slice_bounds-copy_from_slice-end-in-loop-k : goal.slice_bounds-copy_from_slice-end-in-loop-k
+slice_bounds-copy_from_slice-end-in-loop-k c =
+    let steps = c.in-Some.ensures.steps in
+    let held = c.loop-k.invariant in
+    let run = c.args.blocks.now in
+    let u = c.requires.0 in
+    let k = c.in-Some.k in
+    let off = block_off c.args.n k run c.in-Some.block.now c.next.new.self.iter.rest.now u.whole held.0 held.1 steps.1 steps.0.1.0 steps.0.1.1 in
+    let low = ap (λ (b : List ℕ). get_or b 4 0) off.this ∙ low_count c.args.n run u k off.inside in
+    let few = few_records c.args.n run u k off.inside in
     omega arith
-
-pub overflow_mul-k : goal.overflow_mul-k
-overflow_mul-k c = omega arith
-
-pub overflow_add-k : goal.overflow_add-k
-overflow_add-k c = omega arith
-
-pub loop-k-smaller : goal.loop-k-smaller
-loop-k-smaller c = omega arith
 
 pub loop-k-preserved : goal.loop-k-preserved
 loop-k-preserved c =
-    let run-there : (k : ℕ) → k < c.args.n → take (k * 512 + 8 + get_or c.args.blocks.now (k * 512 + 4) 0 * 8 - (k * 512 + 8)) (drop (k * 512 + 8) c.args.blocks.now) ≡ records_in (block_at k c.args.blocks.now) =
-    λ k inside. let u = c.requires.0 in
-    let e = count_byte c.args.n c.args.blocks.now u k inside in
-    records_there c.args.n c.args.blocks.now u k inside (k * 512 + 8 + get_or c.args.blocks.now (k * 512 + 4) 0 * 8 - (k * 512 + 8)) (omega arith) in
-    let room-there : (k : ℕ) (out : List ℕ) → k < c.args.n → length out ≡ length c.args.out.now → k * 496 + length (take (k * 512 + 8 + get_or c.args.blocks.now (k * 512 + 4) 0 * 8 - (k * 512 + 8)) (drop (k * 512 + 8) c.args.blocks.now)) ≤ length out =
-    λ k out inside same. let size = ap length (run-there k inside) in
-    let before = before_length c.args.n c.args.blocks.now c.requires.0 k inside in
-    let next = next_fits c.args.n c.args.blocks.now c.requires.0 k inside in
-    let room = c.requires.1 in
-    omega arith in (
-      omega arith,
-      c.put_text.auto.out ∙ c.loop-k.invariant.1,
-      run_put (room-there c.loop-k.k c.loop-k.out (omega arith) c.loop-k.invariant.1) c.put_text.ensures
-          ∙ ap (with_run c.loop-k.out (c.loop-k.k * 496)) (run-there c.loop-k.k (omega arith))
-          ∙ records_turn c.args.n c.args.blocks.now c.requires.0 c.args.out.now c.loop-k.out c.loop-k.k (omega arith) c.requires.1 c.loop-k.invariant.2,
+    let steps = c.in-Some.ensures.steps in
+    let held = c.loop-k.invariant in
+    let run = c.args.blocks.now in
+    let u = c.requires.0 in
+    let k = c.in-Some.k in
+    let now = c.loop-k.out in
+    let new = c.copy_from_slice.new.self in
+    let off = block_off c.args.n k run c.in-Some.block.now c.next.new.self.iter.rest.now u.whole held.0 held.1 steps.1 steps.0.1.0 steps.0.1.1 in
+    let bytes = get_or c.in-Some.block.now 4 0 * 8 in
+    let low : get_or c.in-Some.block.now 4 0 ≡ get_or (block_at k run) 4 0 = ap (λ (b : List ℕ). get_or b 4 0) off.this in
+    let count = low_count c.args.n run u k off.inside in
+    let made : new ≡ records_in (block_at k run) =
+    c.copy_from_slice.ensures.after ∙ ap (λ (b : List ℕ). take (8 + bytes - 8) (drop 8 b)) off.this ∙ records_there c.args.n run u k off.inside (8 + bytes - 8) (omega arith) in
+    let some = ap length made ∙ records_length c.args.n run u k off.inside in
+    let before = before_length c.args.n run u k off.inside in
+    let fits = next_fits c.args.n run u k off.inside in
+    let next : k + 1 ≡ c.next.new.self.count = omega (arith, steps.1, steps.2) in
+    let put = part_put now new (k * 496) (k * 496 + bytes - k * 496) (omega arith) in (
+      steps.0.0 ∙ held.0,
+      off.past ∙ ap (λ (j : ℕ). drop (512 * j) run) next,
+      omega (arith, next, off.inside),
+      ap length put ∙ (puts now (k * 496) new (omega (arith, c.requires.1, held.3, records_length c.args.n run u k off.inside)) refl).long ∙ held.3,
+      put
+          ∙ ap (with_run now (k * 496)) made
+          ∙ records_turn c.args.n run u c.args.out.now now k off.inside c.requires.1 (held.4 ∙ ap (λ (j : ℕ). with_run c.args.out.now 0 (first_records j run)) (sym steps.1))
+          ∙ ap (λ (j : ℕ). with_run c.args.out.now 0 (first_records j run)) next,
     )
-
-pub shape_of-out : goal.shape_of-out
-shape_of-out c = c.loop-k.invariant.1
-
-pub returns : goal.returns
-returns c =
-    let e : c.loop-k.k ≡ c.args.n = omega arith in
-    c.loop-k.invariant.2 ∙ ap (λ (j : ℕ). with_run c.args.out.now 0 (first_records j c.args.blocks.now)) e

@@ -1,71 +1,38 @@
-use mathlib.Core.Path.{◌≡◌, refl, sym, ap, ap₂, ◌∙◌}
-use mathlib.Core.Option.{some}
-use Prim.Native.Nat.{ℕ, suc, ◌+◌, ◌*◌, ◌-◌}
-use native.Mathlib.Omega.{arith}
-use lib.ListN.{take, drop, length-drop}
-use lib.Seq.{length-take-le}
-use Rattle.blocks.specs.Blocks.{Fault, fault, fault_in, block_at, or_else, lowest_fault}
+use Rattle.std.proofs.Common.{◌≡◌, ◌+◌, ◌*◌, ℕ, suc, drop, sym, ap, ap₂, ◌∙◌, arith}
+use Rattle.std.proofs.Math.Option.{none, some}
+use Rattle.std.proofs.lemmas.Result.{err_from_is_err_and}
+use Rattle.blocks.specs.Blocks.{fault, fault_in, block_at, or_else, lowest_fault}
 use Rattle.blocks.proofs.RunLaws.{lowest_found}
-use Rattle.blockreader.specs.Answers.{fault_of}
+use Rattle.blockreader.specs.Answers.{code_of, block_of}
+use Rattle.blockreader.proofs.ReadLaws.{block_off}
 use Rattle.blockreader.proofs.lowest.Goals as goal
-
-pub loop-k-init : goal.loop-k-init
-loop-k-init c = (omega arith, refl)
-
-pub overflow_mul-at : goal.overflow_mul-at
-overflow_mul-at c = omega arith
-
-pub overflow_add-end : goal.overflow_add-end
-overflow_add-end c = omega arith
-
-pub slice_bounds-fault_at-count : goal.slice_bounds-fault_at-count
-slice_bounds-fault_at-count c = omega arith
-
-pub slice_bounds-fault_at-start : goal.slice_bounds-fault_at-start
-slice_bounds-fault_at-start c = omega arith
-
-pub slice_bounds-fault_at-end : goal.slice_bounds-fault_at-end
-slice_bounds-fault_at-end c = omega arith
-
-pub fault_at-requires : goal.fault_at-requires
-fault_at-requires c =
-    let size = length-drop (c.loop-k.k * 512) c.args.blocks.now in
-    (length-take-le (c.loop-k.k * 512 + 512 - c.loop-k.k * 512) (drop (c.loop-k.k * 512) c.args.blocks.now) (omega arith) ∙ (omega arith), omega arith, omega arith)
-
-pub returns-in-Sums : goal.returns-in-Sums
-returns-in-Sums c =
-    let found-there : fault_of c.fault_at.result ≡ fault_in c.args.n c.loop-k.k (block_at c.loop-k.k c.args.blocks.now) =
-    let size : c.loop-k.k * 512 + 512 - c.loop-k.k * 512 ≡ 512 = omega arith in
-    let place : c.loop-k.k * 512 ≡ 512 * c.loop-k.k = omega arith in
-    c.fault_at.ensures ∙ ap₂ (λ (m j : ℕ). fault_in c.args.n c.loop-k.k (take m (drop j c.args.blocks.now))) size place in
-    let lowest-there : (f : Fault) → fault_of c.fault_at.result ≡ some f → some f ≡ lowest_fault c.args.n c.args.blocks.now c.args.n = λ f e. sym (lowest_found c.args.n c.args.blocks.now c.args.n c.loop-k.k f c.loop-k.invariant.1 (sym found-there ∙ e) (omega arith)) in
-    lowest-there (fault 22 c.in-Sums.p) (ap fault_of c.in-Sums.is)
-
-pub returns-in-Form : goal.returns-in-Form
-returns-in-Form c =
-    let found-there : fault_of c.fault_at.result ≡ fault_in c.args.n c.loop-k.k (block_at c.loop-k.k c.args.blocks.now) =
-    let size : c.loop-k.k * 512 + 512 - c.loop-k.k * 512 ≡ 512 = omega arith in
-    let place : c.loop-k.k * 512 ≡ 512 * c.loop-k.k = omega arith in
-    c.fault_at.ensures ∙ ap₂ (λ (m j : ℕ). fault_in c.args.n c.loop-k.k (take m (drop j c.args.blocks.now))) size place in
-    let lowest-there : (f : Fault) → fault_of c.fault_at.result ≡ some f → some f ≡ lowest_fault c.args.n c.args.blocks.now c.args.n = λ f e. sym (lowest_found c.args.n c.args.blocks.now c.args.n c.loop-k.k f c.loop-k.invariant.1 (sym found-there ∙ e) (omega arith)) in
-    lowest-there (fault 23 c.in-Form.p) (ap fault_of c.in-Form.is)
-
-pub overflow_add-k : goal.overflow_add-k
-overflow_add-k c = omega arith
-
-pub loop-k-smaller : goal.loop-k-smaller
-loop-k-smaller c = omega arith
 
 pub loop-k-preserved : goal.loop-k-preserved
 loop-k-preserved c =
-    let found-there : fault_of c.fault_at.result ≡ fault_in c.args.n c.loop-k.k (block_at c.loop-k.k c.args.blocks.now) =
-    let size : c.loop-k.k * 512 + 512 - c.loop-k.k * 512 ≡ 512 = omega arith in
-    let place : c.loop-k.k * 512 ≡ 512 * c.loop-k.k = omega arith in
-    c.fault_at.ensures ∙ ap₂ (λ (m j : ℕ). fault_in c.args.n c.loop-k.k (take m (drop j c.args.blocks.now))) size place in
-    let on : c.loop-k.k + 1 ≡ suc c.loop-k.k = omega arith in
-    (omega arith, ap (lowest_fault c.args.n c.args.blocks.now) on ∙ ap₂ or_else c.loop-k.invariant.1 (sym found-there ∙ ap fault_of c.in-Nothing.is))
+    let steps = c.in-Some.ensures.steps in
+    let held = c.loop-k.invariant in
+    let run = c.args.blocks.now in
+    let n = c.args.n in
+    let k = c.in-Some.k in
+    let off = block_off n k run c.in-Some.block.now c.next.new.self.iter.rest.now c.requires.0 held.0 held.1 steps.1 steps.0.1.0 steps.0.1.1 in
+    let next : k + 1 ≡ c.next.new.self.count = omega (arith, steps.1, steps.2) in
+    let up : suc k ≡ c.next.new.self.count = omega arith in
+    let before : lowest_fault n run k ≡ none = ap (lowest_fault n run) steps.1 ∙ held.3 in (
+      steps.0.0 ∙ held.0,
+      off.past ∙ ap (λ (j : ℕ). drop (512 * j) run) next,
+      omega (arith, off.inside),
+      sym (ap (lowest_fault n run) up) ∙ ap₂ or_else before (ap (fault_in n k) (sym off.this) ∙ sym c.in_ok-fault_at.ensures),
+    )
 
-pub returns : goal.returns
-returns c =
-    let e : c.loop-k.k ≡ c.args.n = omega arith in
-    sym (ap (lowest_fault c.args.n c.args.blocks.now) (sym e) ∙ c.loop-k.invariant.1)
+pub returns-in_err-fault_at : goal.returns-in_err-fault_at
+returns-in_err-fault_at c =
+    let p = err_from_is_err_and c.from_residual.result c.from_residual.ensures.1 in
+    let steps = c.in-Some.ensures.steps in
+    let held = c.loop-k.invariant in
+    let run = c.args.blocks.now in
+    let n = c.args.n in
+    let k = c.in-Some.k in
+    let off = block_off n k run c.in-Some.block.now c.next.new.self.iter.rest.now c.requires.0 held.0 held.1 steps.1 steps.0.1.0 steps.0.1.1 in
+    let e = c.in_err-fault_at.field-0.0 in
+    let found : fault_in n k (block_at k run) ≡ some (fault (code_of e) (block_of e)) = sym (c.in_err-fault_at.ensures ∙ ap (fault_in n k) off.this) in
+    rw (p.1, p.2) (sym (lowest_found n run n k (fault (code_of e) (block_of e)) (ap (lowest_fault n run) steps.1 ∙ held.3) found off.inside))

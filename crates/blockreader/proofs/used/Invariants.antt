@@ -1,8 +1,5 @@
 -- `blockreader::used` meets its contract. The loop's invariant: the bytes passed are zeros, so that what is asked is asked of the rest. Assumes nothing.
-use mathlib.Core.Path.{◌≡◌}
-use Prim.Native.Nat.{◌-◌, ◌%◌}
-use lib.Dec.{eqb}
-use lib.ListN.{drop}
+use Rattle.std.proofs.Common.{◌≡◌, ◌-◌, ◌%◌, eqb, drop}
 use Rattle.graph.specs.Decide.{every_of}
 use Rattle.blockreader.proofs.used.Given as goal
 

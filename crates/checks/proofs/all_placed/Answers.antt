@@ -1,24 +1,19 @@
-use mathlib.Core.Path.{sym, subst}
-use Prim.Native.Nat.{◌+◌}
+use mathlib.Core.Path.{sym, ◌∙◌}
+use Prim.Native.Nat.{◌<◌}
+use borrow.Author.Rules.{rules}
 use native.Mathlib.Omega.{arith}
-use Rattle.tallies.specs.CountLaws.{Counting, counting_start, counting_one, counting_none}
-use Rattle.checks.proofs.CheckLaws.{one_lacks, all_counted}
+use lib.ListN.{length, take}
+use Rattle.std.proofs.lemmas.List.{get_or-take, length-take}
+use Rattle.std.proofs.lemmas.Slice.Zip.{zip_turn}
+use Rattle.checks.proofs.CheckLaws.{one_lacks}
 use Rattle.checks.proofs.all_placed.Goals as goal
-use Rattle.checks.proofs.all_placed.Goals.{then-stand-i-ne4+else-places-i-eq0, else-stand-i-ne4}
 
-pub loop-i-init : goal.loop-i-init
-loop-i-init c = (omega arith, omega arith, counting_start _ _)
-
-pub returns-then-places-i-eq0 : goal.returns-then-places-i-eq0
-returns-then-places-i-eq0 c =
-    one_lacks _ _ c.args.count c.within-jobs.ensures.1 c.loop-i-test.true c.if-stand-i-ne4.true c.if-places-i-eq0.true
-
-pub loop-i-preserved : goal.loop-i-preserved
-loop-i-preserved c = (
-  omega arith,
-  elim c.if-stand-i-ne4.branch [ then-stand-i-ne4+else-places-i-eq0 w ↦ omega arith | else-stand-i-ne4 w ↦ omega arith ],
-  elim c.if-stand-i-ne4.branch [ then-stand-i-ne4+else-places-i-eq0 w ↦ subst (Counting _ _ (c.loop-i.i + 1)) (sym w.kept-is) (counting_one _ _ c.loop-i.invariant.2 w.if-stand-i-ne4.true w.if-places-i-eq0.false) | else-stand-i-ne4 w ↦ subst (Counting _ _ (c.loop-i.i + 1)) (sym w.kept-is) (counting_none _ _ c.loop-i.invariant.2 w.if-stand-i-ne4.false) ],
-)
-
-pub returns : goal.returns
-returns c = all_counted _ _ c.args.count c.within-jobs.ensures.1 c.loop-i.invariant.0 c.loop-i-test.false c.loop-i.invariant.2
+pub returns-then-place-eq0 : goal.returns-then-place-eq0
+returns-then-place-eq0 c =
+    let n = c.min-jobs.result in
+    let i = length c.loop-state.yielded in
+    let turn = zip_turn (take n c.args.states.now) (take n c.args.placed.now) c.loop-state.yielded c.into_iter-state-iterator.result c.loop-state.state-iterator c.next.new.self _ (search rules) (search rules) c.loop-state.yielded_by _ c.in-Some.is c.next.ensures.steps in
+    let inside : i < n = omega (arith, length-take n c.args.states.now, turn.0) in
+    one_lacks c.args.states.now c.args.placed.now c.args.count c.min-jobs.ensures inside
+    (rw (turn.2 0 ∙ get_or-take n c.args.states.now i 0 inside) at c.if-state-ne-ABANDONED.true)
+    (sym (get_or-take n c.args.placed.now i 0 inside) ∙ sym (turn.3 0) ∙ c.if-place-eq0.true)

@@ -1,18 +1,24 @@
-use mathlib.Core.Path.{refl, ◌∙◌}
+use Prim.Native.Nat.{◌<◌}
 use native.Mathlib.Omega.{arith}
+use lib.Seq.{length-take-le}
+use Rattle.std.proofs.lemmas.List.{get_or-take}
 use Rattle.exporter.proofs.TextLaws.{said_start, said_next, said_all}
 use Rattle.exporter.proofs.put_all.Goals as goal
 
-pub loop-i-init : goal.loop-i-init
-loop-i-init c = (omega arith, omega arith, refl, λ h count t f. said_start t f)
+pub loop-step-init : goal.loop-step-init
+loop-step-init c = (omega arith, λ h t f. said_start t f)
 
-pub loop-i-preserved : goal.loop-i-preserved
-loop-i-preserved c =
-    (omega arith, omega arith, c.put_told-at.ensures.put.same ∙ c.loop-i.invariant.2, λ h count t f. said_next t f (c.loop-i.invariant.3 h count t f) c.loop-i-test.true c.put_told-at.ensures.put)
-
-pub shape_of-out : goal.shape_of-out
-shape_of-out c = c.loop-i.invariant.2
+pub loop-step-preserved : goal.loop-step-preserved
+loop-step-preserved c =
+    let n = c.args.n in
+    let told = c.args.table.now.told in
+    let i = c.loop-step.step-index in
+    let inside : i < n = omega (arith, length-take-le n told (omega arith), c.loop-step-test.true) in (
+      omega arith,
+      λ h t f. said_next t f (c.loop-step.invariant.1 h t f) inside (rw (get_or-take n told i 0 inside) at c.put_told-at.ensures.put),
+    )
 
 pub returns : goal.returns
 returns c =
-    (omega arith, λ h count t f. said_all t f (c.loop-i.invariant.3 h count t f) c.loop-i-test.false)
+    let e = length-take-le c.args.n c.args.table.now.told (omega arith) in
+    (omega arith, λ h t f. said_all t f (c.loop-step.invariant.1 h t f) (omega arith))

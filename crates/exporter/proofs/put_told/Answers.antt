@@ -6,12 +6,12 @@ use Rattle.exporter.proofs.put_told.Goals as goal
 
 pub returns-then-step-eq0 : goal.returns-then-step-eq0
 returns-then-step-eq0 c =
-    puts_nothing c.args.out.now c.args.at 17 (told_none c.args.numbers.now c.args.states.now c.args.step c.args.at (omega arith))
+    puts_nothing c.args.out.now c.args.at 17 (told_none c.args.table.now.numbers c.args.table.now.states c.args.step c.args.at (omega arith))
 
-pub returns-then-stand-job-eq4 : goal.returns-then-stand-job-eq4
-returns-then-stand-job-eq4 c =
-    puts_nothing c.args.out.now c.args.at 17 (told_gone c.args.numbers.now c.args.states.now c.args.step c.args.at c.if-step-eq0.false (omega arith))
+pub returns-then-table-job-eq-ABANDONED : goal.returns-then-table-job-eq-ABANDONED
+returns-then-table-job-eq-ABANDONED c =
+    puts_nothing c.args.out.now c.args.at 17 (told_gone c.args.table.now.numbers c.args.table.now.states c.args.step c.args.at c.if-step-eq0.false (omega arith))
 
 pub returns : goal.returns
 returns c =
-    puts_as (sym (told_kept c.args.numbers.now c.args.states.now c.args.step c.args.at c.if-step-eq0.false (λ e. omega arith))) (puts_both c.put_blank-from.ensures c.put_symbol.ensures)
+    puts_as (sym (told_kept c.args.table.now.numbers c.args.table.now.states c.args.step c.args.at c.if-step-eq0.false (λ e. omega arith))) (puts_both c.put_blank-from.ensures c.put_symbol.ensures)

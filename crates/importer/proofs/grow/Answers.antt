@@ -1,19 +1,21 @@
--- `importer::grow` meets its contract: no symbol is completed, or one that has no place, or one whose record is put down. Assumes nothing.
+-- `importer::grow` meets its contract: the record is put down, or has no place. Assumes nothing.
+use mathlib.Core.Path.{◌≡◌, ap, ◌∙◌}
+use mathlib.Core.List.{List, ◌++◌}
+use Prim.Native.Nat.{ℕ, ◌+◌, ◌*◌}
 use native.Mathlib.Omega.{arith}
-use Rattle.importer.specs.Importer.{as_read}
-use Rattle.importer.proofs.LogLaws.{holds_same, holds_past, holds_more}
+use lib.ListN.{length, take}
+use Rattle.std.proofs.lemmas.Slice.{take-put_mid}
+use Rattle.verdicts.specs.Logs.{record_of}
+use Rattle.importer.specs.Importer.{event_of}
+use Rattle.importer.proofs.StandLaws.{record_long}
+use Rattle.importer.proofs.LogLaws.{holds_more}
 use Rattle.importer.proofs.grow.Goals as goal
 
-pub returns-then-phase-ne1 : goal.returns-then-phase-ne1
-returns-then-phase-ne1 c = (omega arith, λ h fit whole here. holds_same h (as_read c.args.s) c.args.count c.args.log.now here c.args.phase c.if-phase-ne1.true)
-
-pub returns-then-count-ge4096 : goal.returns-then-count-ge4096
-returns-then-count-ge4096 c =
-    (omega arith, λ h fit whole here. holds_past h (as_read c.args.s) c.args.count c.args.log.now here c.args.phase c.if-phase-ne1.false (omega arith))
-
-pub returns : goal.returns
-returns c = (
-  omega arith,
-  λ h fit whole here.
-      holds_more h (as_read c.args.s) c.args.count c.args.log.now here c.args.phase c.if-phase-ne1.false c.put_record.new.log c.requires.0 (omega arith) fit (whole c.if-phase-ne1.false) c.put_record.ensures,
-)
+pub returns-then-count-lt4096 : goal.returns-then-count-lt4096
+returns-then-count-lt4096 c =
+    let e : c.copy_from_slice.new.self ≡ record_of (event_of c.args.symbol) = c.copy_from_slice.ensures.after ∙ c.record.ensures in
+    let n : length c.copy_from_slice.new.self ≡ 8 = ap length e ∙ record_long c.args.symbol in
+    λ h here.
+    holds_more h (event_of c.args.symbol) c.args.count c.args.log.now here _
+    (take-put_mid (c.args.count * 8) _ c.args.log.now c.copy_from_slice.new.self ((c.args.count + 1) * 8) (omega arith) (omega arith)
+    ∙ ap (λ (l : List ℕ). take (c.args.count * 8) c.args.log.now ++ l) e)

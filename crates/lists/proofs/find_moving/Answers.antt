@@ -8,7 +8,7 @@ use Rattle.lists.proofs.find_moving.Goals as goal
 pub returns : goal.returns
 returns c = (
   c.count_outside.ensures.0,
-  λ h numbers jobs prec blank.
+  λ h jobs prec blank.
       let out = outside_rest jobs c.args.preds.now prec (c.mark_open.ensures blank) c.close.ensures in
       (c.count_outside.ensures.1 (at_rest h) (opened h) (sym jobs.many) out ∙ resting_many h jobs.turns, out),
 )

@@ -1,11 +1,6 @@
--- `lists::lead_all` meets its contract. The loop's invariant: the set has grown by what leads to the jobs passed (`Leading`). The measure is what is left of the jobs.
--- Assumes nothing.
-use Prim.Native.Nat.{◌-◌, ◌≤◌}
+-- `lists::lead_all` meets its contract. The loop's invariant: the set has grown by what leads to the jobs passed (`Leading`). Assumes nothing.
 use Rattle.lists.specs.Sheets.{Leading, Grown}
 use Rattle.lists.proofs.lead_all.Given as goal
 
 abbrev pub invariant-loop-i : goal.invariant-loop-i
-invariant-loop-i l = (l.i ≤ l.count) × Leading l.preds l.count l.i l.initial.moving l.moving l.grown × Grown l.initial.moving l.moving l.grown
-
-abbrev pub decreases-loop-i : goal.decreases-loop-i
-decreases-loop-i l = l.count - l.i
+invariant-loop-i l = Leading l.preds l.count l.i l.initial.moving l.moving l.grown × Grown l.initial.moving l.moving l.grown

@@ -1,7 +1,4 @@
--- `lists::list_jobs` meets its contract. The loop's invariant: the jobs left are sorted, and so many entries of the order stand (`Underway`) and have their places. The
--- measure is the entries left. Assumes nothing.
-use mathlib.Core.List.{List}
-use Prim.Native.Nat.{ℕ, ◌-◌, ◌≤◌}
+-- `lists::list_jobs` meets its contract. The loop's invariant: the jobs left are sorted, and so many entries of the order stand (`Underway`) and have their places. Assumes nothing.
 use lib.ListN.{take}
 use Rattle.history.specs.Events.{History}
 use Rattle.tallies.specs.Jobs.{Jobs, Blank}
@@ -12,9 +9,6 @@ use Rattle.lists.proofs.list_jobs.Given as goal
 
 abbrev pub invariant-loop-n : goal.invariant-loop-n
 invariant-loop-n l =
-    (l.n ≤ l.jobs) × Sorted l.preds l.left l.ready l.waiting
-    × ((h : History) (states : List ℕ) (count : ℕ) → Jobs h l.numbers states count → Preceded h count l.preds → KeptMarks h count l.initial.left → Blank l.initial.placed
-    → Underway h count l.left l.n l.order × Placed h count (take l.n l.order) l.placed)
-
-abbrev pub decreases-loop-n : goal.decreases-loop-n
-decreases-loop-n l = l.jobs - l.n
+    Sorted l.preds l.queue.left l.queue.ready l.queue.waiting
+    × ((h : History) → Jobs h l.table.numbers l.table.states l.table.count → Preceded h l.table.count l.preds → KeptMarks h l.table.count l.left → Blank l.initial.placed
+    → Underway h l.table.count l.queue.left l.n l.order × Placed h l.table.count (take l.n l.order) l.placed)

@@ -1,12 +1,8 @@
-use mathlib.Core.Logic.{inl}
 use native.Mathlib.Omega.{arith}
-use borrow.Author.Rules.{rules}
-use Rattle.tallies.specs.FindLaws.{halving_start, halving_turn, halved_other, halved_none}
-use Rattle.logs.proofs.SearchLaws.{turned_start, turned_on, ends_own, ends_other, ends_past}
+use Rattle.tallies.specs.FindLaws.{halving_turn, halved_other, halved_none}
+use Rattle.logs.proofs.SearchLaws.{turned_on, none_found, ends_own, ends_other, ends_past}
 use Rattle.logs.proofs.halve.Goals as goal
-
-pub loop-size-init : goal.loop-size-init
-loop-size-init c = (halving_start _ _ _, turned_start _ _ _)
+use Rattle.logs.proofs.halve.Goals.{else-low-count-via-then-low-count+else-all-low, else-low-count-via-else-low-count}
 
 pub loop-size-preserved : goal.loop-size-preserved
 loop-size-preserved c =
@@ -14,15 +10,8 @@ loop-size-preserved c =
 
 pub returns-then-all-low : goal.returns-then-all-low
 returns-then-all-low c =
-    (search rules, λ r. inl (c.if-low-count.true, c.if-all-low.true), ends_own c.loop-size.invariant.1 c.loop-size-test.false c.if-low-count.true c.if-all-low.true)
+    ((c.if-low-count.true, c.if-all-low.true), ends_own c.loop-size.invariant.1 c.loop-size-test.false c.if-low-count.true c.if-all-low.true)
 
-pub returns-else-all-low : goal.returns-else-all-low
-returns-else-all-low c = (
-  search rules,
-  halved_other c.loop-size.invariant.0 c.loop-size-test.false c.if-low-count.true c.if-all-low.false,
-  ends_other c.loop-size.invariant.1 c.loop-size-test.false c.if-low-count.true c.if-all-low.false,
-)
-
-pub returns-else-low-count : goal.returns-else-low-count
-returns-else-low-count c =
-    (search rules, λ r. halved_none c.loop-size.invariant.0 c.if-low-count.false, ends_past c.loop-size.invariant.1 c.loop-size-test.false c.if-low-count.false)
+pub returns : goal.returns
+returns c =
+    elim c.else-low-count.branch [ else-low-count-via-then-low-count+else-all-low w ↦ (λ r. none_found _ _ _ (halved_other c.loop-size.invariant.0 c.loop-size-test.false w.if-low-count.true w.if-all-low.false r), ends_other c.loop-size.invariant.1 c.loop-size-test.false w.if-low-count.true w.if-all-low.false) | else-low-count-via-else-low-count w ↦ (λ r. none_found _ _ _ (halved_none c.loop-size.invariant.0 w.if-low-count.false), ends_past c.loop-size.invariant.1 c.loop-size-test.false w.if-low-count.false) ]

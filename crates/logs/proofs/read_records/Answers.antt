@@ -1,34 +1,52 @@
-use mathlib.Core.Path.{ap, sym, ◌∙◌}
-use native.Mathlib.Omega.{arith}
-use Rattle.reader.specs.Next.{told}
-use Rattle.logs.proofs.ReadLaws.{bad_length, too_long, along_start, along_fault, along_next, along_end, along_past}
+use mathlib.Core.Path.{◌≡◌, sym, ap, ◌∙◌, subst}
+use mathlib.Core.Logic.{inl, inr}
+use Prim.Native.Nat.{ℕ, ◌+◌}
+use lib.ListN.{get_elem?}
+use Rattle.std.specs.Prelude.{Some, None}
+use Rattle.std.specs.Iterator.Adapters.{enumerate_source, enumerate_count}
+use Rattle.std.specs.declared.iter.Enumerate.{Enumerate}
+use Rattle.std.proofs.lemmas.Result.{err_from_is_err_and}
+use Rattle.history.specs.Formats.{records}
+use Rattle.reader.specs.declared.Reader.{Reader}
+use Rattle.logs.proofs.ReadLaws.{bad_length, Along, along_start, along_fault, along_next, along_end, read_there, stands_next}
 use Rattle.logs.proofs.read_records.Goals as goal
+use Rattle.logs.proofs.read_records.Goals.{then-log-ne0-via-then-log-ne0, then-log-ne0-via-else-log-ne0+then-log-gt32768}
 
 pub returns-then-log-ne0 : goal.returns-then-log-ne0
-returns-then-log-ne0 c = λ pn ps pt. bad_length _ c.if-log-ne0.true
+returns-then-log-ne0 c =
+    λ b. bad_length _ (elim c.then-log-ne0.branch [ then-log-ne0-via-then-log-ne0 w ↦ inl w.if-log-ne0.true | then-log-ne0-via-else-log-ne0+then-log-gt32768 w ↦ inr w.if-log-gt32768.true ])
 
-pub returns-then-log-gt32768 : goal.returns-then-log-gt32768
-returns-then-log-gt32768 c = λ pn ps pt. too_long _ c.if-log-gt32768.true
+pub loop-place-init : goal.loop-place-init
+loop-place-init c =
+    let it = c.into_iter-place-iterator.result in
+    let same = c.into_iter-place-iterator.ensures.into_iter_gives in
+    let source : enumerate_source it ≡ c.new.result = ap (λ (e : Enumerate Reader). enumerate_source e) same ∙ c.enumerate-place-items.ensures.source in
+    let zero : enumerate_count it ≡ 0 = ap (λ (e : Enumerate Reader). enumerate_count e) same ∙ c.enumerate-place-items.ensures.count in (
+      record {
+        of_log = ap (λ (r : Reader). r.log.now) source ∙ ap (λ l. l.now) c.new.ensures.0;
+        at = ap (λ (r : Reader). r.place) source ∙ c.new.ensures.1 ∙ sym zero;
+      },
+      λ b. subst (λ (k : ℕ). Along c.args.log.now k c.args.table.now) (sym zero) (along_start _ _ c.if-log-ne0.false c.if-log-gt32768.false b),
+    )
 
-pub loop-i-init : goal.loop-i-init
-loop-i-init c = (omega arith, omega arith, λ pn ps pt. along_start _ _ _ _ c.if-log-ne0.false c.if-log-gt32768.false pn ps pt)
+pub loop-place-preserved : goal.loop-place-preserved
+loop-place-preserved c =
+    let s = c.in-Some.ensures.steps in
+    let there = read_there c.loop-place.invariant.0 (Some c.in-Some.r) s.0.0 in (
+      stands_next c.loop-place.invariant.0 _ there s.0.1 s.2,
+      λ b.
+          let a = subst (λ (k : ℕ). Along c.args.log.now k c.loop-place.table) (sym s.1) (c.loop-place.invariant.1 b) in
+          subst (λ (k : ℕ). Along c.args.log.now k c.take_record.new.self) (ap (λ (k : ℕ). k + 1) s.1 ∙ sym s.2)
+          (along_next a (there ∙ ap (get_elem? (records c.args.log.now)) (sym s.1)) c.take_record.new.self (c.in_ok-take_record.ensures a.so_far a.taken)),
+    )
 
-pub returns-then-t-ne0 : goal.returns-then-t-ne0
-returns-then-t-ne0 c = λ pn ps pt.
-    let a = c.loop-i.invariant.2 pn ps pt in
-    along_fault a (ap told (sym c.in-Record.is) ∙ c.next_record.ensures) (c.take_record-t.ensures.1 a.so_far a.taken) c.if-t-ne0.true
-
-pub returns-in-End : goal.returns-in-End
-returns-in-End c = λ pn ps pt. along_end (c.loop-i.invariant.2 pn ps pt) (ap told (sym c.in-End.is) ∙ c.next_record.ensures)
-
-pub loop-i-preserved : goal.loop-i-preserved
-loop-i-preserved c = (
-  c.take_record-t.ensures.0,
-  omega arith,
-  λ pn ps pt.
-      let a = c.loop-i.invariant.2 pn ps pt in
-      along_next a (ap told (sym c.in-Record.is) ∙ c.next_record.ensures) (c.take_record-t.ensures.1 a.so_far a.taken) c.if-t-ne0.false,
-)
+pub returns-in_err-take_record : goal.returns-in_err-take_record
+returns-in_err-take_record c = λ b.
+    let s = c.in-Some.ensures.steps in
+    let there = read_there c.loop-place.invariant.0 (Some c.in-Some.r) s.0.0 in
+    let a = subst (λ (k : ℕ). Along c.args.log.now k c.loop-place.table) (sym s.1) (c.loop-place.invariant.1 b) in
+    let p = err_from_is_err_and c.from_residual.result c.from_residual.ensures.1 in
+    rw (p.1, p.2) (along_fault a (there ∙ ap (get_elem? (records c.args.log.now)) (sym s.1)) c.take_record.new.self _ (c.in_err-take_record.ensures a.so_far a.taken))
 
 pub returns : goal.returns
-returns c = λ pn ps pt. along_past (c.loop-i.invariant.2 pn ps pt) c.loop-i-test.false
+returns c = λ b. along_end (c.loop-place.invariant.1 b) (read_there c.loop-place.invariant.0 None c.in-None.ensures.steps.0.0)

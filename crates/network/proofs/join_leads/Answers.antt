@@ -6,12 +6,10 @@ use Rattle.network.proofs.join_leads.Goals as goal
 use Rattle.network.proofs.join_leads.Invariants.{row}
 
 pub loop-i-init : goal.loop-i-init
-loop-i-init c = (omega arith, record { long = search rules; rows = λ k q. absurd (omega arith) })
+loop-i-init c = record { long = search rules; rows = λ k q. absurd (omega arith) }
 
 pub loop-i-preserved : goal.loop-i-preserved
-loop-i-preserved c =
-    (omega arith, filled_turn (row c.args.leads0.now c.args.leads1.now c.args.leads2.now) c.loop-i.invariant.1 (omega arith) refl)
+loop-i-preserved c = filled_turn (row c.args.stations.now) c.loop-i.invariant (omega (arith, c.loop-i.invariant.long)) refl
 
 pub returns : goal.returns
-returns c =
-    filled_end (row c.args.leads0.now c.args.leads1.now c.args.leads2.now) c.loop-i.invariant.1 (omega arith)
+returns c = filled_end (row c.args.stations.now) c.loop-i.invariant (omega (arith, c.loop-i.invariant.long))

@@ -1,25 +1,17 @@
--- `orders::reedtangle_list_order` meets its contract: the code is at most 18 and the place at most 4,095, so that the sum fits. Assumes nothing.
-use mathlib.Core.Path.{◌≡◌, ap, ◌∙◌}
+-- `orders::reedtangle_list_order` meets its contract: the code is at most 18 and the place at most 4,095, so that both fit in one number. Assumes nothing.
+use mathlib.Core.Path.{ap, ◌∙◌}
 use native.Mathlib.Omega.{arith}
-use borrow.Author.Rules.{rules}
-use Rattle.verdicts.specs.Verdicts.{Listed, list_order}
+use Rattle.verdicts.specs.Verdicts.{Listed}
 use Rattle.verdicts_laws.specs.SizeLaws.{list_small}
 use Rattle.lists.proofs.ListedLaws.{same_code, same_place, same_list}
+use Rattle.orders.proofs.InOne.{fits_in_one}
 use Rattle.orders.proofs.reedtangle_list_order.Goals as goal
-
-pub overflow_add-result : goal.overflow_add-result
-overflow_add-result c =
-    let is_code : c.code.result ≡ (list_order c.args.log.now c.args.out.now).code = c.code.ensures ∙ same_code c.list_order-l.result c.list_order-l.new.out ∙ ap (λ (a : Listed). a.code) c.list_order-l.ensures in
-    let is-place : c.place.result ≡ (list_order c.args.log.now c.args.out.now).place = c.place.ensures ∙ same_place c.list_order-l.result c.list_order-l.new.out ∙ ap (λ (a : Listed). a.place) c.list_order-l.ensures in
-    let s = list_small c.args.log.now c.args.out.now in
-    let k = is_code in
-    let p = is-place in
-    search rules
 
 pub returns : goal.returns
 returns c =
-    let is_code : c.code.result ≡ (list_order c.args.log.now c.args.out.now).code = c.code.ensures ∙ same_code c.list_order-l.result c.list_order-l.new.out ∙ ap (λ (a : Listed). a.code) c.list_order-l.ensures in
-    let is-place : c.place.result ≡ (list_order c.args.log.now c.args.out.now).place = c.place.ensures ∙ same_place c.list_order-l.result c.list_order-l.new.out ∙ ap (λ (a : Listed). a.place) c.list_order-l.ensures in
-    let k = is_code in
-    let p = is-place in
-    (omega arith, same_list c.list_order-l.result c.list_order-l.new.out ∙ ap (λ (a : Listed). a.list) c.list_order-l.ensures)
+    let a = c.list_order.result in
+    let out = c.list_order.new.out in
+    let e = c.list_order.ensures in (
+      c.in_one.ensures ∙ fits_in_one (omega arith) (list_small c.args.log.now c.args.out.now) (same_code a out ∙ ap (λ (l : Listed). l.code) e) (same_place a out ∙ ap (λ (l : Listed). l.place) e),
+      same_list a out ∙ ap (λ (l : Listed). l.list) e,
+    )

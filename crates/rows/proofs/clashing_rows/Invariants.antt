@@ -1,13 +1,8 @@
--- `rows::clashing_rows` meets its contract. The loop's invariant: the marks found are those of the rows passed whose word has the cell's mark. The measure is what
--- is left of the rows. Assumes nothing.
-use Prim.Native.Nat.{◌≤◌, ◌-◌}
+-- `rows::clashing_rows` meets its contract. The loop's invariant: the marks found are those of the rows passed that clash. Assumes nothing.
 use mathlib.Core.Path.{◌≡◌}
 use Rattle.marks.specs.Marks.{mask_of}
-use Rattle.rows.proofs.ClashLaws.{clashes}
+use Rattle.rows.specs.Rows.{kind_of, met}
 use Rattle.rows.proofs.clashing_rows.Given as goal
 
-abbrev pub invariant-loop-i : goal.invariant-loop-i
-invariant-loop-i l = (l.i ≤ l.to) × (l.found ≡ mask_of l.i (clashes l.sets l.twice l.first l.place l.mark))
-
-abbrev pub decreases-loop-i : goal.decreases-loop-i
-decreases-loop-i l = l.to - l.i
+abbrev pub invariant-loop-at : goal.invariant-loop-at
+invariant-loop-at l = l.found ≡ mask_of l.at (met l.sets (kind_of l.step.deed) l.step.cell.0)

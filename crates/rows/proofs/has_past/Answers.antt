@@ -8,6 +8,6 @@ use Rattle.rows.proofs.has_past.Goals as goal
 
 pub returns : goal.returns
 returns c =
-    let used : Part c.args.sets.now (c.args.row.0 * 16 + 8) c.load.result.words = record { four = search rules; from = c.load.ensures } in
-    let altered : Part c.args.sets.now (c.args.row.0 * 16 + 12) c.load-2.result.words = record { four = search rules; from = c.load-2.ensures } in
-    past_law (sets_only c.args.sets.now) c.args.row.0 used altered c.union.ensures c.is_empty.ensures
+    let used : Part c.args.sets.now (c.args.row.at * 16 + 8) c.load.result.words = record { four = search rules; from = rw c.start-at.ensures at c.load.ensures } in
+    let altered : Part c.args.sets.now (c.args.row.at * 16 + 12) c.load-2.result.words = record { four = search rules; from = rw c.start-at.ensures at c.load-2.ensures } in
+    past_law (sets_only c.args.sets.now) c.args.row.at used altered c.union.ensures c.is_empty.ensures

@@ -1,6 +1,5 @@
--- `rows::leading` meets its contract. The loop's invariant: the marks found are those of the rows passed that lead to the slot, free or not.
--- The measure is what is left of the rows. Assumes nothing.
-use Prim.Native.Nat.{ℕ, ◌≤◌, ◌-◌}
+-- `rows::leading` meets its contract. The loop's invariant: the marks found are those of the rows passed that lead to the slot, free or not. Assumes nothing.
+use Prim.Native.Nat.{ℕ}
 use mathlib.Core.Path.{◌≡◌}
 use mathlib.Core.Bool.{Bool}
 use mathlib.Core.List.{List}
@@ -13,7 +12,4 @@ abbrev pub leads_to : List ℕ → ℕ → ℕ → Bool
 leads_to leads s k = bit (get_or leads k 0) s
 
 abbrev pub invariant-loop-i : goal.invariant-loop-i
-invariant-loop-i l = (l.i ≤ 32) × (l.found ≡ mask_of l.i (leads_to l.leads l.own))
-
-abbrev pub decreases-loop-i : goal.decreases-loop-i
-decreases-loop-i l = 32 - l.i
+invariant-loop-i l = l.found ≡ mask_of l.i (leads_to l.leads l.own.at)

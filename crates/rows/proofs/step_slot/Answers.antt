@@ -2,4 +2,4 @@
 use Rattle.rows.proofs.step_slot.Goals as goal
 
 pub returns : goal.returns
-returns c = (c.lead_to.ensures, c.mark_own.ensures)
+returns c = rw (← c.from-own.ensures) (c.lead_to.ensures, c.mark_own.ensures)

@@ -1,19 +1,14 @@
--- `rows::store` meets its contract. That the array has 512 words is known by way of the slice, as in `load`. Assumes nothing.
+use mathlib.Core.Path.{◌≡◌, ap, ◌∙◌}
+use native.Mathlib.Numerals.{add-one}
 use native.Mathlib.Omega.{arith}
-use lib.ListN.{length-set}
-use borrow.Author.Rules.{rules}
-use Rattle.rows.proofs.SetLaws.{written_set}
+use Rattle.rows.proofs.SetLaws.{written, written_set}
 use Rattle.rows.proofs.store.Goals as goal
+
+pub loop-i-preserved : goal.loop-i-preserved
+loop-i-preserved c = rw (c.loop-i.invariant, add-one)
 
 pub returns : goal.returns
 returns c =
-    written_set 512 c.args.sets.now (search rules) c.args.at c.args.set.words (search rules)
-
-pub bounds-all-at-2 : goal.bounds-all-at-2
-bounds-all-at-2 c = simp length-set (omega arith)
-
-pub bounds-all-at-3 : goal.bounds-all-at-3
-bounds-all-at-3 c = simp length-set (omega arith)
-
-pub bounds-all-at-4 : goal.bounds-all-at-4
-bounds-all-at-4 c = simp length-set (omega arith)
+    let e : c.loop-i.i ≡ 4 = omega arith in
+    c.loop-i.invariant ∙ ap (written c.args.sets.now c.args.at c.args.set.words) e
+    ∙ written_set 512 c.args.sets.now c.told-sets c.args.at c.args.set.words (omega arith)

@@ -5,5 +5,5 @@ use Rattle.rows.proofs.take_over.Goals as goal
 
 pub returns : goal.returns
 returns c =
-    taken_over {l₁ = c.gain_set.new.sets} {l₂ = c.gain_set-2.new.sets} 512 c.args.sets.now c.args.row.0 c.args.slot.0 (omega (arith, c.requires)) (omega (arith, c.requires))
-    c.gain_set.ensures c.gain_set-2.ensures
+    taken_over {l₁ = c.gain_set.new.sets} {l₂ = c.gain_set-2.new.sets} 512 c.args.sets.now c.args.row.at c.args.slot.at (omega (arith, c.args.row.inside)) (omega (arith, c.args.slot.inside))
+    (rw (c.start-to.ensures, c.start-from.ensures) at c.gain_set.ensures) (rw (c.start-to.ensures, c.start-from.ensures) at c.gain_set-2.ensures)

@@ -1,8 +1,8 @@
--- `slots::cell_in` meets its contract: two bytes of cell, low byte first. Assumes nothing.
-use borrow.Author.Rules.{rules}
+-- `slots::cell_in` meets its contract: two bytes, low byte first. Assumes nothing.
+use mathlib.Core.Path.{◌∙◌}
 use Rattle.history.specs.Formats.{request_of}
 use Rattle.slots.proofs.cell_in.Goals as goal
 
 pub returns : goal.returns
 unfolding request_of
-returns c = search rules
+returns c = c.from.ensures ∙ c.from_le_bytes.ensures

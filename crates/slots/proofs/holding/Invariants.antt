@@ -1,6 +1,6 @@
 -- `slots::holding` meets its contract. The loop's invariant: the marks found are those of the slots passed that hold the number, free or not.
--- The measure is what is left of the slots. Assumes nothing.
-use Prim.Native.Nat.{ℕ, ◌≤◌, ◌-◌}
+-- Assumes nothing.
+use Prim.Native.Nat.{ℕ}
 use mathlib.Core.Path.{◌≡◌}
 use mathlib.Core.Bool.{Bool}
 use mathlib.Core.List.{List}
@@ -14,7 +14,4 @@ abbrev pub holds : List ℕ → ℕ → ℕ → Bool
 holds numbers job k = eqb (get_or numbers k 0) job
 
 abbrev pub invariant-loop-i : goal.invariant-loop-i
-invariant-loop-i l = (l.i ≤ 32) × (l.found ≡ mask_of l.i (holds l.numbers l.job.0))
-
-abbrev pub decreases-loop-i : goal.decreases-loop-i
-decreases-loop-i l = 32 - l.i
+invariant-loop-i l = l.found ≡ mask_of l.i (holds l.numbers l.job.0)

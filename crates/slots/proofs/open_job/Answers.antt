@@ -1,40 +1,43 @@
 -- `slots::open_job` meets its contract: a law of RequestLaws for each way out. The lowest mark of `free` is a slot since some mark is there. Assumes nothing.
-use mathlib.Core.Path.{refl, sym, subst}
-use Prim.Native.Nat.{ℕ, ◌%◌, ◌<◌}
-use borrow.Author.Rules.{rules}
+use mathlib.Core.Path.{◌≡◌, refl}
+use Prim.Native.Nat.{◌%◌, ◌^◌, ◌<◌}
+use native.Mathlib.Omega.{arith}
 use Rattle.marks.specs.MaskLaws.{set_tab}
-use Rattle.slots.proofs.RequestLaws.{slot, free_inside, next_fits, does_open_spent, does_open_no_port, does_open_full, does_open_port_full, does_open_granted}
+use Rattle.slots.proofs.LowestLaws.{slot}
+use Rattle.slots.proofs.RequestLaws.{free_inside, does_open_spent, does_open_no_port, does_open_full, does_open_port_full, does_open_granted}
 use Rattle.slots.proofs.open_job.Goals as goal
 
-pub returns-then-next-ge4294967296 : goal.returns-then-next-ge4294967296
-returns-then-next-ge4294967296 c = does_open_spent c.if-next-ge4294967296.true c.refused.ensures
+pub returns-in_default : goal.returns-in_default
+returns-in_default c = does_open_spent (omega arith)
 
 pub returns-then-port-ge3 : goal.returns-then-port-ge3
-returns-then-port-ge3 c = does_open_no_port c.if-next-ge4294967296.false c.if-port-ge3.true c.refused-then-port-ge3.ensures
+returns-then-port-ge3 c = does_open_no_port (omega (arith, c.in-Ok.ensures)) c.if-port-ge3.true
 
-pub returns-then-free-eq0 : goal.returns-then-free-eq0
-returns-then-free-eq0 c =
-    does_open_full c.if-next-ge4294967296.false c.ranges.free.fits c.if-port-ge3.false c.if-free-eq0.true c.refused-then-free-eq0.ensures
+pub returns-then-spare-eq0 : goal.returns-then-spare-eq0
+returns-then-spare-eq0 c =
+    let fits : c.args.free.now < 2 ^ 32 = omega arith in
+    does_open_full (omega (arith, c.in-Ok.ensures)) fits c.if-port-ge3.false c.if-spare-eq0.true
 
 pub returns-then-crowd-ge16 : goal.returns-then-crowd-ge16
 returns-then-crowd-ge16 c =
-    does_open_port_full c.if-next-ge4294967296.false c.ranges.free.fits c.if-port-ge3.false c.if-free-eq0.false c.crowd.ensures c.if-crowd-ge16.true c.refused-then-crowd-ge16.ensures
+    let fits : c.args.free.now < 2 ^ 32 = omega arith in
+    does_open_port_full (omega (arith, c.in-Ok.ensures)) fits c.if-port-ge3.false c.if-spare-eq0.false c.crowd.ensures c.if-crowd-ge16.true
 
-pub bounds-rows-slot : goal.bounds-rows-slot
-bounds-rows-slot c =
-    let inside : slot c.args.free < 32 = free_inside c.ranges.free.fits c.if-free-eq0.false in
-    subst (λ (n : ℕ). slot c.args.free < n) (sym c.rows-1.given.0.1) inside
+pub bounds-numbers-slot : goal.bounds-numbers-slot
+bounds-numbers-slot c =
+    let fits : c.args.free.now < 2 ^ 32 = omega arith in
+    free_inside fits c.if-spare-eq0.false
 
 pub put_under-requires : goal.put_under-requires
 put_under-requires c =
-    let inside : slot c.args.free < 32 = free_inside c.ranges.free.fits c.if-free-eq0.false in
-    (c.if-port-ge3.false, inside)
+    let fits : c.args.free.now < 2 ^ 32 = omega arith in
+    (c.if-port-ge3.false, free_inside fits c.if-spare-eq0.false)
 
 pub returns : goal.returns
 returns c =
-    let inside : slot c.args.free < 32 = free_inside c.ranges.free.fits c.if-free-eq0.false in
-    does_open_granted c.ranges.free.fits c.if-next-ge4294967296.false c.if-port-ge3.false c.if-free-eq0.false c.crowd.ensures c.if-crowd-ge16.false
-    (set_tab c.args.numbers.now (slot c.args.free) (c.args.next % 4294967296) c.rows-1.given.0.1 inside (λ p q. refl)) c.put_under.ensures c.open_slot-taken.ensures
-
-pub overflow_add-result : goal.overflow_add-result
-overflow_add-result c = let f = next_fits c.if-next-ge4294967296.false in search rules
+    let same : c.in-Ok.number ≡ c.args.next.now % 4294967296 = omega (arith, c.in-Ok.ensures) in
+    let fits : c.args.free.now < 2 ^ 32 = omega arith in
+    let inside : slot c.args.free.now < 32 = free_inside fits c.if-spare-eq0.false in
+    rw same
+    (does_open_granted fits (omega (arith, c.in-Ok.ensures)) c.if-port-ge3.false c.if-spare-eq0.false c.crowd.ensures c.if-crowd-ge16.false
+    (set_tab c.args.numbers.now (slot c.args.free.now) (c.args.next.now % 4294967296) c.told-numbers inside (λ p q. refl)) c.put_under.ensures c.open_slot.ensures)

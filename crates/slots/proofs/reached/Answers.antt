@@ -1,40 +1,17 @@
 use Prim.Native.Nat.{◌-◌, ◌^◌}
-use native.Mathlib.Omega.{arith}
 use Rattle.marks.specs.MarkLaws.{Lowest, lowest_mark}
 use Rattle.slots.proofs.SearchLaws.{leads_to, leads_fit, begins, turn, falls, reached_mask}
 use Rattle.slots.proofs.reached.Goals as goal
 use Rattle.slots.proofs.reached.Invariants.{row}
 
-pub overflow_cast-seen : goal.overflow_cast-seen
-overflow_cast-seen c = omega arith
-
-pub offset_bounds-leads-slot : goal.offset_bounds-leads-slot
-offset_bounds-leads-slot c = omega arith
-
-pub bounds-leads-slot : goal.bounds-leads-slot
-bounds-leads-slot c = c.requires
-
 pub loop-todo-init : goal.loop-todo-init
 loop-todo-init c =
     begins (leads_to (row c.args.leads.now) (2 ^ 32 - 1 - c.args.free)) 32 c.args.slot.0 (leads_fit (row c.args.leads.now) 32 c.args.free)
-
-pub overflow_cast-fresh : goal.overflow_cast-fresh
-overflow_cast-fresh c =
-    let low : Lowest 32 c.loop-todo.todo = lowest_mark 32 c.loop-todo.todo c.loop-todo.invariant.todo_fits c.loop-todo-test.true in
-    omega (arith, low.inside)
-
-pub offset_bounds-leads-i : goal.offset_bounds-leads-i
-offset_bounds-leads-i c =
-    let low : Lowest 32 c.loop-todo.todo = lowest_mark 32 c.loop-todo.todo c.loop-todo.invariant.todo_fits c.loop-todo-test.true in
-    omega (arith, low.inside)
 
 pub bounds-leads-i : goal.bounds-leads-i
 bounds-leads-i c =
     let low : Lowest 32 c.loop-todo.todo = lowest_mark 32 c.loop-todo.todo c.loop-todo.invariant.todo_fits c.loop-todo-test.true in
     low.inside
-
-pub overflow_sub-todo : goal.overflow_sub-todo
-overflow_sub-todo c = omega arith
 
 pub loop-todo-smaller : goal.loop-todo-smaller
 loop-todo-smaller c = falls c.loop-todo.invariant c.loop-todo-test.true

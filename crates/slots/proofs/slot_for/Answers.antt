@@ -1,38 +1,29 @@
-use Prim.Native.Nat.{ℕ, ◌<◌}
-use mathlib.Core.Path.{◌≡◌, sym, ap, ap₂, ◌∙◌}
-use mathlib.Core.Bool.{Bool, false, not, ◌&&◌, and-false}
-use native.Mathlib.Omega.{arith}
-use borrow.Author.Count.{below_more}
-use borrow.Author.Tests.{eq-eqb, ne_eqb}
+-- `slots::slot_for` meets its contract: a law of LowestLaws for each way out. Assumes nothing.
+use mathlib.Core.Path.{sym, ap, ◌∙◌}
 use lib.Bits.{bit_and}
-use lib.Count.{count_trailing_zeros}
-use lib.Dec.{lit≤, eqb}
-use lib.ListN.{get_or}
-use Rattle.marks.specs.Marks.{bit}
+use lib.Dec.{eqb}
+use Prim.Native.Nat.{ℕ, ◌<◌}
+use borrow.Author.Tests.{eq-eqb}
+use native.Mathlib.Omega.{arith}
+use Rattle.std.proofs.lemmas.List.Quantifiers.{position-Some}
+use Rattle.slots.proofs.LowestLaws.{position_none}
 use Rattle.marks.specs.MarkLaws.{and_mark, shl_one}
-use Rattle.marks.specs.MaskLaws.{lowest_none, lowest_is}
-use Rattle.slots.specs.Finds.{holds}
+use Rattle.slots.proofs.LowestLaws.{slot_nowhere, slot_at, slot_no_mask, slot_of_mask}
 use Rattle.slots.proofs.slot_for.Goals as goal
 
-pub loop-i-init : goal.loop-i-init
-loop-i-init c = (lit≤ tt, λ k q. absurd (omega arith))
+pub returns-in_err-first : goal.returns-in_err-first
+returns-in_err-first c =
+    c.from_residual.ensures ∙ sym (slot_nowhere c.args.free c.args.numbers.now c.args.job.0 (λ i q. let long = c.told-numbers in position_none (λ (n : ℕ). eqb n c.args.job.0) c.args.numbers.now 0 (sym c.in_err-first.ensures) i (omega arith)))
 
-pub loop-i-preserved : goal.loop-i-preserved
-loop-i-preserved c =
-    (omega arith, below_more (λ k. eqb (get_or c.args.numbers.now k 0) c.args.job.0 ≡ false) c.loop-i.i c.loop-i.invariant.1 (ne_eqb _ _ c.if-numbers-i.false))
+pub returns-then-free-first-eq0 : goal.returns-then-free-first-eq0
+returns-then-free-first-eq0 c =
+    let p = position-Some (λ (n : ℕ). eqb n c.args.job.0) c.args.numbers.now c.in_ok-first.first 0 (sym c.in_ok-first.ensures) in
+    let q : c.in_ok-first.first < 32 = omega arith in
+    sym (slot_at c.args.free c.args.numbers.now c.args.job.0 c.in_ok-first.first q p.1 p.2
+    (sym (and_mark c.args.free c.in_ok-first.first) ∙ ap (λ (x : ℕ). eqb (bit_and c.args.free x) 0) (sym (shl_one 32 q)) ∙ eq-eqb _ _ c.if-free-first-eq0.true))
 
-pub returns-then-free-i-eq0 : goal.returns-then-free-i-eq0
-returns-then-free-i-eq0 c =
-    let passed : (k : ℕ) → k < c.loop-i.i → holds c.args.free c.args.numbers.now c.args.job.0 k ≡ false = λ k q. ap (λ (b : Bool). not (bit c.args.free k) && b) (c.loop-i.invariant.1 k q) ∙ and-false (not (bit c.args.free k)) in
-    let q : c.loop-i.i < 32 = omega arith in
-    sym (lowest_is 32 (holds c.args.free c.args.numbers.now c.args.job.0) c.loop-i.i q
-    (ap₂ ◌&&◌ (sym (and_mark c.args.free c.loop-i.i) ∙ ap (λ (x : ℕ). eqb (bit_and c.args.free x) 0) (sym (shl_one 32 q)) ∙ eq-eqb _ _ c.if-free-i-eq0.true) (eq-eqb _ _ c.if-numbers-i.true))
-    passed)
-
-pub returns-then-numbers-i : goal.returns-then-numbers-i
-returns-then-numbers-i c = ap (count_trailing_zeros 32) c.holding.ensures
+pub returns-then-found-eq0 : goal.returns-then-found-eq0
+returns-then-found-eq0 c = sym (slot_no_mask c.args.free c.args.numbers.now c.args.job.0 c.holding-found.ensures c.if-found-eq0.true)
 
 pub returns : goal.returns
-returns c =
-    let passed : (k : ℕ) → k < c.loop-i.i → holds c.args.free c.args.numbers.now c.args.job.0 k ≡ false = λ k q. ap (λ (b : Bool). not (bit c.args.free k) && b) (c.loop-i.invariant.1 k q) ∙ and-false (not (bit c.args.free k)) in
-    sym (lowest_none 32 (holds c.args.free c.args.numbers.now c.args.job.0) (λ k q. passed k (omega arith)))
+returns c = sym (slot_of_mask c.args.free c.args.numbers.now c.args.job.0 c.holding-found.ensures c.if-found-eq0.false)

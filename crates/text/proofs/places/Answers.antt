@@ -1,33 +1,15 @@
-use mathlib.Core.Path.{◌≡◌, ap, ◌∙◌}
-use mathlib.Core.List.{[], ◌∷◌}
-use Prim.Native.Nat.{ℕ, ◌/◌, ◌%◌}
-use native.Mathlib.Omega.{arith}
-use lib.ListN.{length, length-append}
-use Rattle.text.specs.Decimal.{glyph, leading, decimal}
-use Rattle.text.specs.DecimalLaws.{leading_zero, leading_more, decimal_length}
+-- `text::places` meets its contract: the largest power of ten in the number says how many digits it has.
+-- Assumes nothing.
+use Rattle.std.proofs.Common.{length, ap, arith}
+use Rattle.text.specs.DecimalLaws.{decimal_count, decimal_digit}
 use Rattle.text.proofs.places.Goals as goal
 
-pub loop-rest-init : goal.loop-rest-init
-unfolding decimal
-loop-rest-init c =
-    let n = c.args.n in
-    let e = length-append (leading (n / 10)) (glyph (n % 10) ∷ []) in
-    (omega arith, omega arith, decimal_length n (omega arith))
+pub returns-in-Some : goal.returns-in-Some
+returns-in-Some c =
+    let e = decimal_count c.args.n c.in-Some.power (omega (arith, c.in-Some.ensures.power_le)) (omega (arith, c.in-Some.ensures.next_power_gt)) in
+    (omega arith, omega arith, omega (arith, c.in-Some.ensures.bound))
 
-pub overflow_add-k : goal.overflow_add-k
-overflow_add-k c = omega arith
-
-pub loop-rest-smaller : goal.loop-rest-smaller
-loop-rest-smaller c = omega arith
-
-pub loop-rest-preserved : goal.loop-rest-preserved
-loop-rest-preserved c =
-    let rest = c.loop-rest.rest in
-    let e = ap length (leading_more rest (omega arith)) ∙ length-append (leading (rest / 10)) (glyph (rest % 10) ∷ []) in
-    (omega arith, omega arith, omega arith)
-
-pub returns : goal.returns
-returns c =
-    let z : c.loop-rest.rest ≡ 0 = omega arith in
-    let e = ap (λ (x : ℕ). length (leading x)) z ∙ ap length leading_zero in
+pub returns-in-None : goal.returns-in-None
+returns-in-None c =
+    let e = ap length (decimal_digit c.args.n (omega (arith, c.in-None.ensures.none))) in
     (omega arith, omega arith, omega arith)

@@ -3,4 +3,4 @@ use Rattle.arbiter.proofs.ReplayLaws.{fresh_law}
 use Rattle.arbiter.proofs.State.fresh.Goals as goal
 
 pub returns : goal.returns
-returns c = fresh_law c.args.first.0
+returns c = rw c.from.ensures (fresh_law c.args.first.0)

@@ -1,9 +1,0 @@
--- `rooms::all` is safe and ends: the turns fall.
--- Assumes nothing.
-use Rattle.rooms.proofs.all.Given as goal
-
-abbrev pub invariant-loop-turns : goal.invariant-loop-turns
-invariant-loop-turns g l = Unit {0}
-
-abbrev pub decreases-loop-turns : goal.decreases-loop-turns
-decreases-loop-turns g l = l.turns
