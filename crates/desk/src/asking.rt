@@ -47,7 +47,7 @@ fn only<F: Fn(Marks) -> bool>(h: &List, is_in: F) -> List
 }
 
 // The log without the jobs that are still open.
-pub fn closed_log(h: &List) -> List {
+pub(crate) fn closed_log(h: &List) -> List {
     only(h, |marks| marks.is_gone())
 }
 
@@ -287,7 +287,7 @@ fn arbiter_says(h: &List) -> Said {
 }
 
 // Of the ask that stands last: the answer here, and the arbiter's.
-pub fn answers(h: &mut List) -> (Reply, Said) {
+pub(crate) fn answers(h: &mut List) -> (Reply, Said) {
     let i = h.at(ASKED) as usize;
     let mine = decide(h, i);
     let theirs = arbiter_says(h);
@@ -310,7 +310,7 @@ fn bytes_of(log: &List) -> [[u8; 8]; MOST_RECORDS] {
 }
 
 // Does the lister list an order for the log without the jobs still open, of at most 512 jobs, and does the checker accept it, with as many?
-pub fn is_ordered(h: &List) -> bool {
+pub(crate) fn is_ordered(h: &List) -> bool {
     let log = closed_log(h);
     let bytes = bytes_of(&log);
     let records = bytes[..log.size() % 2049].as_flattened();

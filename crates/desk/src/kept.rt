@@ -20,7 +20,7 @@ pub const NEXT: usize = 4203;
 pub const COUNTS: usize = 4352;
 
 // What was asked, eight places each: the four words of a publish's cell set; the request, and of a publish the job where a request has it; and whether it is a publish.
-pub fn place(i: usize, part: usize) -> usize {
+pub(crate) fn place(i: usize, part: usize) -> usize {
     ASKS | i << 3 | part
 }
 
@@ -35,68 +35,68 @@ pub struct List {
 }
 
 impl List {
-    pub fn empty() -> List {
+    pub(crate) fn empty() -> List {
         List { all: [0; ROOM] }
     }
 
-    pub fn at(&self, i: usize) -> u64 {
+    pub(crate) fn at(&self, i: usize) -> u64 {
         self.all.get(i).copied().unwrap_or(0)
     }
 
-    pub fn put(&mut self, i: usize, x: u64) {
+    pub(crate) fn put(&mut self, i: usize, x: u64) {
         if let Some(place) = self.all.get_mut(i) {
             *place = x;
         }
     }
 
     // So much more at a place.
-    pub fn bump(&mut self, i: usize, x: u64) {
+    pub(crate) fn bump(&mut self, i: usize, x: u64) {
         if let Some(place) = self.all.get_mut(i) {
             *place = place.wrapping_add(x);
         }
     }
 
     // How many numbers?
-    pub fn size(&self) -> usize {
+    pub(crate) fn size(&self) -> usize {
         self.at(LENGTH) as usize
     }
 
     // One number more.
-    pub fn push(&mut self, x: u64) {
+    pub(crate) fn push(&mut self, x: u64) {
         self.put(self.size(), x);
         self.bump(LENGTH, 1);
     }
 
     // The first n places, as far as the list goes. What would stand past its end is 0, and is no record.
-    pub fn head(&self, n: usize) -> &[u64] {
+    pub(crate) fn head(&self, n: usize) -> &[u64] {
         &self.all[..n.min(ROOM)]
     }
 
-    pub fn head_mut(&mut self, n: usize) -> &mut [u64] {
+    pub(crate) fn head_mut(&mut self, n: usize) -> &mut [u64] {
         &mut self.all[..n.min(ROOM)]
     }
 
-    pub fn records(&self) -> &[u64] {
+    pub(crate) fn records(&self) -> &[u64] {
         self.head(self.size())
     }
 
     // An empty history begins, with its first number. The counts stay.
-    pub fn begin(&mut self, first: u64) {
+    pub(crate) fn begin(&mut self, first: u64) {
         self.all[..COUNTS].fill(0);
         self.put(FIRST, first);
     }
 
     // A log does not hold ports: that of the open at place i of the records stands apart, 32 to a number.
-    pub fn port_at(&self, i: usize) -> u64 {
+    pub(crate) fn port_at(&self, i: usize) -> u64 {
         self.at(PORTS | i / 32) >> (i % 32 * 2) & 3
     }
 
-    pub fn put_port(&mut self, i: usize, port: u64) {
+    pub(crate) fn put_port(&mut self, i: usize, port: u64) {
         self.bump(PORTS | i / 32, port % 4 << (i % 32 * 2));
     }
 
     // One more of what is counted.
-    pub fn count(&mut self, i: usize) {
+    pub(crate) fn count(&mut self, i: usize) {
         self.bump(COUNTS | i, 1);
     }
 }

@@ -33,34 +33,34 @@ impl TryFrom<u64> for Kind {
 pub struct Record(pub u64);
 
 impl Record {
-    pub fn of(kind: Kind, cell: u64, job: u64) -> Record {
+    pub(crate) fn of(kind: Kind, cell: u64, job: u64) -> Record {
         Record(kind as u64 | cell << 16 | job << 32)
     }
 
-    pub fn kind(self) -> u64 {
+    pub(crate) fn kind(self) -> u64 {
         self.0 % 256
     }
 
-    pub fn cell(self) -> u64 {
+    pub(crate) fn cell(self) -> u64 {
         self.0 >> 16 & 65535
     }
 
-    pub fn job(self) -> u64 {
+    pub(crate) fn job(self) -> u64 {
         self.0 >> 32
     }
 
-    pub fn is(self, kind: Kind) -> bool {
+    pub(crate) fn is(self, kind: Kind) -> bool {
         self.kind() == kind as u64
     }
 
     // The kind, where it is one and byte 1 is 0.
-    pub fn well_formed(self) -> Option<Kind> {
+    pub(crate) fn well_formed(self) -> Option<Kind> {
         Kind::try_from(self.0 % 65536).ok()
     }
 
     // Do an earlier record and a later one of another job conflict: steps on one cell, at least one a write, or an end and an open? The steps are 2 and 3, and are told by
     // a bit, as a record may hold a kind that there is not.
-    pub fn conflicts_with(self, later: Record) -> bool {
+    pub(crate) fn conflicts_with(self, later: Record) -> bool {
         let steps = self.0 & later.0 & 2 != 0;
         let write = (self.0 | later.0) & 1 != 0;
         let meet = steps && write && self.cell() == later.cell();
@@ -79,18 +79,18 @@ pub struct Marks {
 }
 
 impl Marks {
-    pub fn is_open(self) -> bool {
+    pub(crate) fn is_open(self) -> bool {
         self.opened && !self.ended && !self.abandoned
     }
 
     // No longer open.
-    pub fn is_gone(self) -> bool {
+    pub(crate) fn is_gone(self) -> bool {
         self.ended || self.abandoned
     }
 }
 
 // Of a kind that is none, the three low bits count.
-pub fn marks_of(records: &[u64], job: u64) -> Marks {
+pub(crate) fn marks_of(records: &[u64], job: u64) -> Marks {
     let mut marks = Marks::default();
     for x in records {
         let record = Record(*x);

@@ -8,7 +8,7 @@ use std::fmt;
 pub struct Said(pub u64);
 
 impl Said {
-    pub fn of(code: u64, number: u64) -> Said {
+    pub(crate) fn of(code: u64, number: u64) -> Said {
         Said(code | number << 32)
     }
 }
@@ -53,7 +53,7 @@ impl Row {
     pub const REST: Row = Row(4560);
 
     // That of the shape with this number, of six.
-    pub fn of_shape(shape: usize) -> Row {
+    pub(crate) fn of_shape(shape: usize) -> Row {
         Row(Row::SHAPES + shape % 6 * 16)
     }
 
@@ -65,18 +65,24 @@ impl Row {
         Row::REST
     }
 
-    pub fn at(self, h: &List, i: usize) -> u64 {
+    pub(crate) fn at(self, h: &List, i: usize) -> u64 {
         h.at(self.0 | i)
     }
 
     // One more at a place of the row, and of what it is summed to.
-    pub fn count(self, h: &mut List, i: usize) {
+    pub(crate) fn count(self, h: &mut List, i: usize) {
         h.bump(self.0 | i, 1);
         h.bump(self.sum().0 | i, 1);
     }
 
     // One answer more, which is to be the other's, and the one that is wanted if one is given.
-    pub fn compare(self, h: &mut List, mine: Said, theirs: Option<Said>, want: Option<Said>) {
+    pub(crate) fn compare(
+        self,
+        h: &mut List,
+        mine: Said,
+        theirs: Option<Said>,
+        want: Option<Said>,
+    ) {
         if theirs != Some(mine) || want.is_some_and(|want| want != mine) {
             self.count(h, DIFFER);
         }
@@ -85,7 +91,7 @@ impl Row {
     }
 
     // One request more was granted.
-    pub fn granted(self, h: &mut List, asked: Record) {
+    pub(crate) fn granted(self, h: &mut List, asked: Record) {
         match Kind::try_from(asked.kind()) {
             Ok(Kind::Publish) => self.count(h, PUBLISHES),
             Ok(Kind::Add) => self.count(h, ADDS),
@@ -95,7 +101,7 @@ impl Row {
 }
 
 // What all streams differ in is also in the sum of all.
-pub fn sum_streams(h: &mut List) {
+pub(crate) fn sum_streams(h: &mut List) {
     let differ = Row::STREAMS.at(h, DIFFER);
     h.bump(Row::REST.0 | DIFFER, differ);
 }

@@ -137,7 +137,7 @@ fn no_order() -> List {
 }
 
 // Place after place the lowest kept job without a place that no job without a place precedes. Where no order exists, not all kept jobs get one.
-pub fn laid(h: &List) -> List {
+pub(crate) fn laid(h: &List) -> List {
     let mut left = without(h, |marks| marks.abandoned);
     let left = left.head_mut(h.size());
     let mut order = no_order();
@@ -211,7 +211,7 @@ fn checker_says(h: &List, order: &List) -> Said {
     said(orders::reedtangle_check_order(log, jobs))
 }
 
-pub fn try_check(h: &mut List, row: Row, log: &List, order: &List, want: Option<Said>) {
+pub(crate) fn try_check(h: &mut List, row: Row, log: &List, order: &List, want: Option<Said>) {
     let mine = judge(log).and_then(|_| check_order(log, order));
     row.compare(h, Said::from(mine), Some(checker_says(log, order)), want);
 }
@@ -229,7 +229,7 @@ fn lister_says(h: &List, room: usize, order: &List) -> Option<Said> {
     Some(said)
 }
 
-pub fn try_list(h: &mut List, row: Row, log: &List, room: usize, want: Option<Said>) {
+pub(crate) fn try_list(h: &mut List, row: Row, log: &List, room: usize, want: Option<Said>) {
     let order = laid(log);
     let mine = judge(log).and_then(|_| list_order(log, room, &order));
     // where the answer is no order, nothing is put into the list

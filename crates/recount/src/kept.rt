@@ -28,47 +28,47 @@ pub struct List {
 
 impl List {
     // The same number everywhere.
-    pub fn all(x: u64) -> List {
+    pub(crate) fn all(x: u64) -> List {
         List { all: [x; ROOM] }
     }
 
-    pub fn at(&self, i: usize) -> u64 {
+    pub(crate) fn at(&self, i: usize) -> u64 {
         self.all.get(i).copied().unwrap_or(0)
     }
 
-    pub fn put(&mut self, i: usize, x: u64) {
+    pub(crate) fn put(&mut self, i: usize, x: u64) {
         if let Some(place) = self.all.get_mut(i) {
             *place = x;
         }
     }
 
     // So much more at a place.
-    pub fn bump(&mut self, i: usize, x: u64) {
+    pub(crate) fn bump(&mut self, i: usize, x: u64) {
         if let Some(place) = self.all.get_mut(i) {
             *place = place.wrapping_add(x);
         }
     }
 
     // The numbers at a place and at the next change places.
-    pub fn swap_next(&mut self, i: usize) {
+    pub(crate) fn swap_next(&mut self, i: usize) {
         if i < ROOM - 1 {
             self.all.swap(i, i + 1);
         }
     }
 
     // How many numbers?
-    pub fn size(&self) -> usize {
+    pub(crate) fn size(&self) -> usize {
         (self.at(LENGTH) / 8) as usize
     }
 
     // One number more.
-    pub fn push(&mut self, x: u64) {
+    pub(crate) fn push(&mut self, x: u64) {
         self.put(self.size(), x);
         self.bump(LENGTH, 8);
     }
 
     // So many numbers more, each a step above the one before.
-    pub fn push_run(&mut self, first: u64, step: u64, count: u64) {
+    pub(crate) fn push_run(&mut self, first: u64, step: u64, count: u64) {
         let mut x = first;
         for _ in 0..count {
             self.push(x);
@@ -77,37 +77,37 @@ impl List {
     }
 
     // The first n places, as far as the list goes. What would stand past its end is 0, and is no record.
-    pub fn head(&self, n: usize) -> &[u64] {
+    pub(crate) fn head(&self, n: usize) -> &[u64] {
         &self.all[..n.min(ROOM)]
     }
 
-    pub fn head_mut(&mut self, n: usize) -> &mut [u64] {
+    pub(crate) fn head_mut(&mut self, n: usize) -> &mut [u64] {
         &mut self.all[..n.min(ROOM)]
     }
 
-    pub fn records(&self) -> &[u64] {
+    pub(crate) fn records(&self) -> &[u64] {
         self.head(self.size())
     }
 
     // The requests of a history, with the one that is asked now.
-    pub fn asks(&self) -> &[u64] {
+    pub(crate) fn asks(&self) -> &[u64] {
         let last = ASKS + (self.at(ASKED) % 2048) as usize;
         &self.all[ASKS..last + 1]
     }
 
     // An empty history or log begins, with its first number.
-    pub fn begin(&mut self, first: u64) {
+    pub(crate) fn begin(&mut self, first: u64) {
         self.put(LENGTH, 0);
         self.put(ASKED, 0);
         self.put(FIRST, first);
     }
 
     // A log does not hold ports: that of the open at place i of the records stands apart, 32 to a number.
-    pub fn port_at(&self, i: usize) -> u64 {
+    pub(crate) fn port_at(&self, i: usize) -> u64 {
         self.at(PORTS | i / 32) >> (i % 32 * 2) & 3
     }
 
-    pub fn put_port(&mut self, i: usize, port: u64) {
+    pub(crate) fn put_port(&mut self, i: usize, port: u64) {
         let change = self.port_at(i) ^ port % 4;
         let old = self.at(PORTS | i / 32);
         self.put(PORTS | i / 32, old ^ change << (i % 32 * 2));
@@ -117,7 +117,7 @@ impl List {
 // ---- what is left of records: 0 stands for one that is taken out, and others may be marked. They stand in a list of numbers; the functions below differ in what they do with a record, a line each
 
 // The records of a job are taken out.
-pub fn take_out(records: &mut [u64], job: u64) {
+pub(crate) fn take_out(records: &mut [u64], job: u64) {
     for x in records.iter_mut() {
         if Record(*x).job() == job {
             *x = 0;
@@ -126,7 +126,7 @@ pub fn take_out(records: &mut [u64], job: u64) {
 }
 
 // The records of a job are marked.
-pub fn mark(records: &mut [u64], job: u64) {
+pub(crate) fn mark(records: &mut [u64], job: u64) {
     for x in records.iter_mut() {
         if Record(*x).job() == job {
             *x = Record(*x).marked().0;
@@ -135,12 +135,12 @@ pub fn mark(records: &mut [u64], job: u64) {
 }
 
 // Is one of these records in conflict with a later one?
-pub fn meets(earlier: &[u64], later: Record) -> bool {
+pub(crate) fn meets(earlier: &[u64], later: Record) -> bool {
     earlier.iter().any(|x| Record(*x).conflicts_with(later))
 }
 
 // Is one of the marked ones?
-pub fn marked_meets(earlier: &[u64], later: Record) -> bool {
+pub(crate) fn marked_meets(earlier: &[u64], later: Record) -> bool {
     let mut records = earlier.iter();
     records.any(|x| Record(*x).is_marked() && Record(*x).conflicts_with(later))
 }

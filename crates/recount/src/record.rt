@@ -38,28 +38,28 @@ pub struct Record(pub u64);
 
 impl Record {
     // Of a kind that has no cell.
-    pub fn of(kind: Kind, job: u64) -> Record {
+    pub(crate) fn of(kind: Kind, job: u64) -> Record {
         Record(kind as u64 | job << 32)
     }
 
-    pub fn kind(self) -> u64 {
+    pub(crate) fn kind(self) -> u64 {
         self.0 % 256
     }
 
-    pub fn cell(self) -> u64 {
+    pub(crate) fn cell(self) -> u64 {
         self.0 >> 16 & 65535
     }
 
-    pub fn job(self) -> u64 {
+    pub(crate) fn job(self) -> u64 {
         self.0 >> 32
     }
 
-    pub fn is(self, kind: Kind) -> bool {
+    pub(crate) fn is(self, kind: Kind) -> bool {
         self.kind() == kind as u64
     }
 
     // The kind, where it is one and byte 1 is 0.
-    pub fn well_formed(self) -> Option<Kind> {
+    pub(crate) fn well_formed(self) -> Option<Kind> {
         if self.0 >> 8 & 255 != 0 {
             return None;
         }
@@ -67,12 +67,12 @@ impl Record {
     }
 
     // Reads, writes, adds, and publishes, told by a bit: a request may hold a kind that there is not.
-    pub fn is_step(self) -> bool {
+    pub(crate) fn is_step(self) -> bool {
         self.0 & 2 != 0
     }
 
     // The write of a publish; any other request is itself.
-    pub fn step(self) -> Record {
+    pub(crate) fn step(self) -> Record {
         if self.is(Kind::Publish) {
             return Record(self.0 ^ 5);
         }
@@ -80,16 +80,16 @@ impl Record {
     }
 
     // The mark stands in byte 1, which is 0 in what is kept: so the record and its mark are one number of the list.
-    pub fn is_marked(self) -> bool {
+    pub(crate) fn is_marked(self) -> bool {
         self.0 & 256 != 0
     }
 
-    pub fn marked(self) -> Record {
+    pub(crate) fn marked(self) -> Record {
         Record(self.0 | 256)
     }
 
     // Do an earlier record and a later one of another job conflict: steps on one cell, of two kinds or both writes, or an end and an open?
-    pub fn conflicts_with(self, later: Record) -> bool {
+    pub(crate) fn conflicts_with(self, later: Record) -> bool {
         let meet = self.is_step() && later.is_step() && self.cell() == later.cell();
         let unlike = self.kind() != later.kind() || later.is(Kind::Write);
         let in_time = self.is(Kind::End) && later.is(Kind::Open);
@@ -107,18 +107,18 @@ pub struct Marks {
 }
 
 impl Marks {
-    pub fn is_open(self) -> bool {
+    pub(crate) fn is_open(self) -> bool {
         self.opened && !self.ended && !self.abandoned
     }
 
     // Ended or open.
-    pub fn is_kept(self) -> bool {
+    pub(crate) fn is_kept(self) -> bool {
         self.opened && !self.abandoned
     }
 }
 
 // Of a kind that is none, the three low bits count.
-pub fn marks_of(records: &[u64], job: u64) -> Marks {
+pub(crate) fn marks_of(records: &[u64], job: u64) -> Marks {
     let mut marks = Marks::default();
     for x in records {
         let record = Record(*x);
@@ -136,13 +136,13 @@ pub fn marks_of(records: &[u64], job: u64) -> Marks {
 }
 
 // How many opens are there?
-pub fn open_records(records: &[u64]) -> usize {
+pub(crate) fn open_records(records: &[u64]) -> usize {
     let opens = records.iter().filter(|x| Record(**x).is(Kind::Open));
     opens.count()
 }
 
 // How many jobs are open?
-pub fn open_jobs(records: &[u64]) -> usize {
+pub(crate) fn open_jobs(records: &[u64]) -> usize {
     let open = records.iter().filter(|x| {
         Record(**x).is(Kind::Open) && marks_of(records, Record(**x).job()).is_open()
     });

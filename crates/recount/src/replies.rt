@@ -7,7 +7,7 @@ use arbiter::JobNumber;
 // ---- the circle
 
 // The records without those of jobs that are out by what all the records say of them.
-pub fn without<F: Fn(Marks) -> bool>(h: &List, is_out: F) -> List
+pub(crate) fn without<F: Fn(Marks) -> bool>(h: &List, is_out: F) -> List
     requires { F.IsAlwaysCallable is_out }
 {
     let records = h.records();
@@ -122,7 +122,7 @@ fn decide_open(h: &List, port: u64) -> Reply {
 }
 
 // May a job with these marks do so, but for circles? It is no open, and a publish is its write.
-pub fn admitted(step: Record, marks: Marks) -> Result<(), Refusal> {
+pub(crate) fn admitted(step: Record, marks: Marks) -> Result<(), Refusal> {
     if step.is_step() && 255 < step.cell() {
         return Err(Refusal::NoCell);
     }
@@ -201,7 +201,7 @@ fn keep(h: &mut List, asked: Record, job: u64) {
 }
 
 // The reply that is wanted may be given.
-pub fn ask(h: &mut List, row: Row, asked: Record, want: Option<Said>) {
+pub(crate) fn ask(h: &mut List, row: Row, asked: Record, want: Option<Said>) {
     let mine = decide(h, asked);
     let theirs = reply_of(h, asked);
     match mine {
@@ -216,7 +216,7 @@ pub fn ask(h: &mut List, row: Row, asked: Record, want: Option<Said>) {
 }
 
 // An empty history begins, with its first number, and is counted.
-pub fn begin(h: &mut List, row: Row, first: u64) {
+pub(crate) fn begin(h: &mut List, row: Row, first: u64) {
     h.begin(first);
     row.count(h, BEGUN);
 }

@@ -43,11 +43,11 @@ impl Shape {
         Shape::NumbersOut,
     ];
 
-    pub fn row(self) -> Row {
+    pub(crate) fn row(self) -> Row {
         Row::of_shape(self as usize)
     }
 
-    pub fn name(self) -> &'static str {
+    pub(crate) fn name(self) -> &'static str {
         match self {
             Shape::FewCells => "few cells",
             Shape::OneOpen => "one job open throughout",
@@ -183,7 +183,7 @@ fn try_round(h: &mut List, round: u32, r: u64) {
 }
 
 // Twenty windows of each shape, and nine rounds after each.
-pub fn try_streams(h: &mut List) {
+pub(crate) fn try_streams(h: &mut List) {
     let mut numbers = Generator { last: SEED };
     for shape in Shape::ALL {
         for _ in 0..20 {

@@ -190,7 +190,7 @@ fn tell(h: &mut List, fields: &Fields) {
 
 const MOST_LINES: usize = 8192;
 
-pub fn tell_all(h: &mut List, text: &[u8]) {
+pub(crate) fn tell_all(h: &mut List, text: &[u8]) {
     let mut from = 0;
     for _ in 0..MOST_LINES {
         let fields = Fields::of(text, from);
