@@ -39,7 +39,7 @@ def block(lines, i):
 bodies = []     # file, line, name and text of each function without its clauses
 for name, text in files():
     crate = name.split('/')[1]
-    lines = text.split('\n')
+    lines = text.replace('pub(crate) ', 'pub ').split('\n')     # what is the crate's own counts as what is public does
     code = [re.sub(r'//.*', '', l) for l in lines]
     whole = '\n'.join(code)
     # 1. own enums of the shape of Option or Result: a variant that holds what is meant, and variants that say why there is none

@@ -11,7 +11,7 @@ ghost use Rattle.slots.specs.Lent.{lent, numbered, packed};
 ghost use Rattle.arbiter.specs.Replay.{held_of, replayed, told};
 
 use cells::CellSet;
-use codes::Told;
+pub use codes::Told;
 pub use slots::{
     Answer, JobNumber, Refusal, Replied, in_one, late_in_place, publish_in_place, step_in_place,
 };

@@ -63,13 +63,20 @@ impl Catalogue {
         Catalogue(State::fresh(first))
     }
 
-    // One request, in place. A refusal leaves the state as it was. As `coarse_in_place`, on a state's own parts, which `State::ask` lends.
+    // One request, in place. A refusal leaves the state as it was. By `coarse_in_place`, which C calls too: its parts are lent one by one, as C lends them.
     pub fn ask(&mut self, request: [u8; 8]) -> Answer
         ensures answered { numbered result ≡ coarse_answer (held_of self.old.0) (request_of request) }
         ensures left { held_of self.new.0 ≡ coarse_next (held_of self.old.0) (request_of request) }
     {
-        let grouped = in_group(request);
-        self.0.ask(grouped)
+        coarse_in_place(
+            &mut self.0.next,
+            &mut self.0.free,
+            &mut self.0.numbers,
+            &mut self.0.leads,
+            &mut self.0.sets,
+            &mut self.0.ports,
+            request,
+        )
     }
 
     // The state after one request, with the answer. A refusal leaves the state as it was.

@@ -9,7 +9,8 @@ ghost use Rattle.slots.specs.Lent.{lent};
 ghost use Rattle.batch.specs.Batch.{batch, batch_leaves, packed};
 ghost use Rattle.batch.specs.Leaves.{told_code, told_place, Takes, Runs, Batches};
 
-use codes::{Told, in_one};
+pub use codes::Told;
+use codes::in_one;
 use slots::{Answer, Kind, Refusal, Refuses, step_in_place};
 
 // Why a batch is refused: its length is wrong, or its first item that is refused, with that item's place.

@@ -7,8 +7,8 @@
 
 ghost use Rattle.std.specs.Prelude.{◌<◌, ◌≤◌};
 
-use arbiter::{Answer, JobNumber, Refusal, State};
-use batch::{BatchRefusal, Batched};
+use arbiter::{JobNumber, Replied, State};
+use batch::Batched;
 use codes::Told;
 
 // ---- numbers from a seed
@@ -277,32 +277,50 @@ fn batched(state: &mut State, bytes: &[u8]) -> Batched {
     )
 }
 
-// An item by itself.
-fn ask_item(state: &mut State, asked: [u8; 8]) -> Answer {
+// A refusal of a batch, in numbers of its own: with the refusals of `batch` itself, what they are told by would not be tried.
+#[derive(Clone, Copy)]
+struct Refused {
+    code: u32,
+    place: usize,
+}
+
+// An item by itself: its code. One of a kind that no batch takes is malformed.
+fn ask_item(state: &mut State, asked: [u8; 8]) -> u32 {
     if TAKEN.iter().any(|kind| *kind as u8 == asked[0]) {
-        state.ask(asked)
+        state.ask(asked).code()
     } else {
-        Err(Refusal::Malformed)
+        1
     }
 }
 
 // What the requests are to get as one batch. Every one is asked, on the state that those before it left; the first refusal counts, and then the state from before them all.
-fn one_by_one(state: &mut State, bytes: &[u8]) -> Batched {
+fn one_by_one(state: &mut State, bytes: &[u8]) -> Result<usize, Refused> {
     let (items, tail) = bytes.as_chunks::<8>();
     if !tail.is_empty() || 64 < items.len() {
-        return Err(BatchRefusal::Length);
+        return Err(Refused { code: 25, place: 0 });
     }
     let before = *state;
     let mut told = Ok(items.len());
     for (place, item) in items.iter().enumerate() {
-        if let (Err(refusal), Ok(_)) = (ask_item(state, *item), told) {
-            told = Err(BatchRefusal::Item(refusal, place));
+        let code = ask_item(state, *item);
+        if code != 0 && told.is_ok() {
+            told = Err(Refused { code, place });
         }
     }
     if told.is_err() {
         *state = before;
     }
     told
+}
+
+// Are two states the same? Field by field here, and not by the `==` of the arbiter, which is no code of this program.
+fn same_state(a: &State, b: &State) -> bool {
+    a.next == b.next
+        && a.free == b.free
+        && a.numbers == b.numbers
+        && a.leads == b.leads
+        && a.sets == b.sets
+        && a.ports == b.ports
 }
 
 // ---- counts
@@ -340,25 +358,27 @@ impl Counts {
         let (items, _) = bytes.as_chunks::<8>();
         raise(&mut self.batches, 1);
         raise(&mut self.items, items.len() as u64);
-        match wanted {
-            Ok(_) => {
+        let is_told = match wanted {
+            Ok(count) => {
                 let adds = items
                     .iter()
                     .filter(|item| item[0] == Kind::Add as u8)
                     .count();
                 raise(&mut self.codes[0], 1);
                 raise(&mut self.adds, adds as u64);
+                told.code() == 0 && told.place() == count
             }
-            Err(refusal) => {
-                if let Some(given) = self.codes.get_mut(refusal.code() as usize) {
+            Err(refused) => {
+                if let Some(given) = self.codes.get_mut(refused.code as usize) {
                     raise(given, 1);
                 }
-                if refusal.place() != 0 {
+                if refused.place != 0 {
                     raise(&mut self.later, 1);
                 }
+                told.code() == refused.code && told.place() == refused.place
             }
-        }
-        if told != wanted || *state != ours {
+        };
+        if !is_told || !same_state(state, &ours) {
             raise(&mut self.differ, 1);
         }
     }

@@ -129,8 +129,7 @@ fn copy_records(n: usize, blocks: &[u8], out: &mut [u8])
 {
     for (k, block) in blocks.chunks_exact(512).enumerate() {
         let size = block[4] as usize * 8;
-        let to = k * 496;
-        out[to..to + size].copy_from_slice(&block[8..8 + size]);
+        sums::put_run(&block[8..8 + size], out, k * 496);
     }
 }
 

@@ -21,10 +21,7 @@ module _ (k : ℕ) (run d : List ℕ) (fits : length run ≤ 496) (long : length
   abbrev zeros : List ℕ
   zeros = replicate (496 - length run) 0
 
-  -- records copied, and zeros filled in, where a part of the block is lent for it
-  pub records_put : (d₂ copy : List ℕ) (m : ℕ) → copy ≡ run → m ≡ length run → take 8 d₂ ++ (copy ++ drop m (drop 8 d₂)) ≡ with_run d₂ 8 run
-  records_put d₂ copy m e n = part_put d₂ copy 8 m (n ∙ sym (ap length e)) ∙ ap (with_run d₂ 8) e
-
+  -- zeros filled in, where a part of the block is lent for it
   pub zeros_put : (d₃ fill : List ℕ) (m : ℕ) → length d₃ ≡ 512 → m ≡ 504 - (8 + length run) → fill ≡ replicate (length (take m (drop (8 + length run) d₃))) 0
       → take (8 + length run) d₃ ++ (fill ++ drop m (drop (8 + length run) d₃)) ≡ with_run d₃ (8 + length run) zeros
   zeros_put d₃ fill m l n e =

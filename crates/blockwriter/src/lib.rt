@@ -51,7 +51,7 @@ fn put_block(number: u32, run: &[u8], bytes: &mut [u8])
     let n = run.len();
     put_number(bytes, 0, number);
     put_number(bytes, 4, (n / 8) as u32);
-    bytes[8..8 + n].copy_from_slice(run);
+    sums::put_run(run, bytes, 8);
     bytes[8 + n..504].fill(0);
     let s = sums::add_up(&bytes[..504]);
     put_number(bytes, 504, s.first);

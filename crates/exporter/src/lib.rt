@@ -12,8 +12,9 @@ ghost use Rattle.notation.specs.Answers.{before_adds, exported, export};
 ghost use Rattle.exporter.specs.Exporter.{refusal_code, refusal_place, answered, add_told, event_at, gap, symbol_told, PutsMost};
 ghost use Rattle.exporter.specs.declared.Refusal.TheVariants.{Log};
 
-use codes::Told;
-use logs::{ABANDONED, Fault, Table};
+pub use codes::Told;
+pub use logs::Fault;
+use logs::{ABANDONED, Table};
 
 // What the exporter answers: the count of bytes of the text, or a refusal with its place.
 pub type Exported = Result<usize, Refusal>;

@@ -9,8 +9,8 @@ ghost use Rattle.notation.specs.Answers.{imported, import};
 ghost use Rattle.importer.specs.Importer.{refusal_code, refusal_place, answered, access_number, kind_number, letter_number, as_read, as_next, Inside, event_of, Holds, Given};
 ghost use Rattle.importer.specs.declared.Refusal.TheVariants.{Log};
 
-use codes::Told;
-use logs::{Fault, Table};
+pub use codes::Told;
+pub use logs::Fault;
 
 // What import answers: the count of bytes of the log, or a refusal with its place.
 pub type Imported = Result<usize, Refusal>;
@@ -286,7 +286,7 @@ fn parse(text: &[u8], log: &mut [u8]) -> Result<usize, Refusal>
 fn put_log(log: &[u8], out: &mut [u8]) -> Imported
     ensures { answered result out.new ≡ imported (read_log log.now) log.now out.old }
 {
-    logs::read_jobs(log, &mut Table::blank())?;
+    logs::judge(log)?;
     // As `copy_out` of exporter: two lines, and the refusal is of another type.
     if out.len() < log.len() {
         return Err(Refusal::NoRoom);

@@ -6,6 +6,7 @@ ghost use Rattle.blocks.specs.Blocks.{write, read};
 
 pub use blockreader::{Unread, read_blocks};
 pub use blockwriter::{Unwritten, write_blocks};
+pub use codes::Told;
 use codes::in_one;
 
 // ---- as hosts call them; the crate `ledger_c` exports each to C and Rust

@@ -5,12 +5,7 @@ use Rattle.std.proofs.Math.Option.{none, some}
 use Rattle.graph.specs.Lists.{only}
 use Rattle.history.specs.Events.{History, kept}
 use Rattle.history.specs.Orders.{order_of}
-use Rattle.verdicts.specs.Logs.{faulty, events, read_log}
-use Rattle.tallies.specs.Jobs.{Jobs}
-use Rattle.tallies.specs.Marks.{mark, in_row, Put, Preceded}
-use Rattle.logs.specs.Faults.{code_of, place_of}
-use Rattle.logs.specs.declared.Fault.{Fault}
-use Rattle.logs.specs.declared.table.Table.{Table}
+use Rattle.tallies.specs.Marks.{mark, in_row, Put}
 use Rattle.lists.specs.declared.Refusal.{Refusal}
 use Rattle.lists.specs.declared.Refusal.TheVariants.{NoOrder}
 
@@ -18,13 +13,6 @@ use Rattle.lists.specs.declared.Refusal.TheVariants.{NoOrder}
 abbrev pub CommonOf : List ℕ → ℕ → List ℕ → Option ℕ → Type 0
 CommonOf rows j words None = (i : ℕ) → i < 512 → mark words i ≡ true → in_row rows j i ≡ false
 CommonOf rows j words (Some r) = (r < 512) × (mark words r ≡ true) × (in_row rows j r ≡ true)
-
--- ---- the log
-
--- the log is faulty, or the table tells of its jobs, and row j of `preds` of who precedes job j
-abbrev pub Tells : List ℕ → Result (Unit {0}) Fault → Table → List ℕ → Type 0
-Tells bytes (Err e) t preds = read_log bytes ≡ faulty (code_of e) (place_of e)
-Tells bytes (Ok u) t preds = (h : History) × (read_log bytes ≡ events h) × Jobs h t.numbers t.states t.count × Preceded h t.count preds
 
 -- ---- the jobs that stand as asked for
 

@@ -13,7 +13,7 @@ ghost use Rattle.tallies.specs.MarkLaws.{Marking};
 ghost use Rattle.logs.specs.Logs.{Holds};
 ghost use Rattle.lists.specs.declared.Refusal.TheVariants.{Log};
 ghost use Rattle.lists.specs.Answers.{code_of, place_of, answered};
-ghost use Rattle.lists.specs.Sheets.{Tells, Asks, CommonOf, LedOn, Leading, Grown, Outside, Numbered, Picked, Whole};
+ghost use Rattle.lists.specs.Sheets.{Asks, CommonOf, LedOn, Leading, Grown, Outside, Numbered, Picked, Whole};
 
 use codes::Told;
 use logs::{ABANDONED, ENDED, Fault, Table};
@@ -120,15 +120,6 @@ fn gather(table: &Table, n: usize, preds: &mut [u64; 4096])
             }
         }
     }
-}
-
-// A log is read: its table, and who precedes whom.
-fn read_log(log: &[u8], table: &mut Table, preds: &mut [u64; 4096]) -> Result<(), Fault>
-    ensures { Blank preds.old → Tells log.now result table.new preds.new }
-{
-    logs::read_jobs(log, table)?;
-    gather(table, log.len() / 8, preds);
-    Ok(())
 }
 
 // The jobs that stand as asked for are put into the set, and how many they are.
@@ -290,13 +281,15 @@ pub fn list_order(log: &[u8], out: &mut [u32]) -> Listed
     ensures { answered result out.new ≡ list_order log.now out.old }
 {
     let mut table = Table::blank();
-    let mut preds: [u64; 4096] = [0; 4096];
-    read_log(log, &mut table, &mut preds)?;
+    logs::read_jobs(log, &mut table)?;
     let mut left: [u64; 8] = [0; 8];
     let kept = keep(&table, &mut left);
     if out.len() < kept {
         return Err(Refusal::Short(kept));
     }
+    // Behind the test of the room: who asks for the count alone does not pay for this.
+    let mut preds: [u64; 4096] = [0; 4096];
+    gather(&table, log.len() / 8, &mut preds);
     let mut order: [u32; 512] = [0; 512];
     list_all(&preds, &table, kept, &left, &mut order)?;
     copy_out(&order, kept, out);
@@ -423,8 +416,10 @@ pub fn list_sheet(log: &[u8], out: &mut [u32]) -> Listed
     ensures { answered result out.new ≡ list_sheet log.now out.old }
 {
     let mut table = Table::blank();
+    logs::read_jobs(log, &mut table)?;
+    let records = log.len() / 8;
     let mut preds: [u64; 4096] = [0; 4096];
-    read_log(log, &mut table, &mut preds)?;
+    gather(&table, records, &mut preds);
     let mut moving: [u64; 8] = [0; 8];
     let rest = find_moving(&preds, &table, &mut moving);
     if out.len() < rest {

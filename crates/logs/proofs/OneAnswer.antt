@@ -18,7 +18,7 @@ use Rattle.history.specs.Events.{History}
 use Rattle.verdicts.specs.Logs.{Reading, faulty, events}
 use Rattle.tallies.specs.OneTable.{one_count, one_numbers, one_states, one_told}
 use Rattle.logs.specs.Faults.{code_of, place_of}
-use Rattle.logs.specs.Logs.{Holds, Reads, Cleared}
+use Rattle.logs.specs.Logs.{Holds, Reads, Cleared, Judged}
 use Rattle.logs.specs.declared.Fault.{Fault}
 use Rattle.logs.specs.declared.Fault.TheVariants.{Length, Form, Turn, TooMany}
 use Rattle.logs.specs.declared.table.Table.{Table}
@@ -32,6 +32,8 @@ use Rattle.logs.proofs.table.Table.blank.Kinds as blank_kinds
 use Rattle.logs.proofs.table.Table.blank.Reads as blank_reads
 use Rattle.logs.proofs.table.Table.find.Kinds as find_kinds
 use Rattle.logs.proofs.table.Table.find.Reads as find_reads
+use Rattle.logs.proofs.judge.Kinds as judge_kinds
+use Rattle.logs.proofs.judge.Reads as judge_reads
 use Rattle.logs.proofs.read_jobs.Kinds as read_kinds
 use Rattle.logs.proofs.read_jobs.Reads as read_reads
 
@@ -89,6 +91,19 @@ same_fault (TooMany m) Length c p = absurd (omega arith)
 same_fault (TooMany m) (Form n) c p = absurd (omega arith)
 same_fault (TooMany m) (Turn n) c p = absurd (omega arith)
 same_fault (TooMany m) (TooMany n) c p = ap TooMany p
+
+one_judging : (bytes : List ℕ) (x y : Result (Unit {0}) Fault) → Judged bytes x → Judged bytes y → x ≡ y
+unfolding fault_code fault_place
+one_judging bytes (Err e) (Err f) r s =
+    let k = sym r ∙ s in
+    let c : suc (code_of e) ≡ suc (code_of f) = ap fault_code k in
+    ap Err (same_fault e f (omega arith) (ap fault_place k))
+one_judging bytes (Err e) (Ok n) r s = absurd (let k : suc (code_of e) ≡ 0 = ap fault_code (sym r ∙ s.1) in omega arith)
+one_judging bytes (Ok m) (Err f) r s = absurd (let k : suc (code_of f) ≡ 0 = ap fault_code (sym s ∙ r.1) in omega arith)
+one_judging bytes (Ok m) (Ok n) r s = refl
+
+pub one_judge : One 1 judge_kinds.ps judge_kinds.r judge_reads.Post
+one_judge κs a x y s t p q = one_judging a.0.now x y p q
 
 one_reading : (bytes : List ℕ) (t u : Table) (x y : Result (Unit {0}) Fault) → Reads bytes x t → Cleared x t → Reads bytes y u → Cleared y u → (x ≡ y) × (t ≡ u)
 unfolding fault_code fault_place events_in

@@ -20,17 +20,16 @@ use Rattle.history.specs.Formats.{records}
 use Rattle.history_laws.specs.RecordLaws.{drop_record, drop_none}
 use Rattle.history.specs.Replies.{Request, want, event_of}
 use Rattle.verdicts.specs.Logs.{record_bytes, most_bytes, fault_of, Reading, faulty, events, read_from, read_log}
-use Rattle.tallies.specs.Jobs.{Padded}
+use Rattle.tallies.specs.Jobs.{Padded, Taken}
 use Rattle.tallies.specs.PadLaws.{padded_zeros}
 use Rattle.reader.specs.Next.{told, moved_on}
 use Rattle.reader.specs.declared.Record.{Record}
 use Rattle.reader.specs.declared.Reader.{Reader}
 use Rattle.reader.proofs.Laws.{read_inside}
 use Rattle.logs.specs.Faults.{code_of, place_of}
-use Rattle.logs.specs.Logs.{Holds, IsBlank, request, Took}
+use Rattle.logs.specs.Logs.{request, TookIn, BlankIn}
 use Rattle.logs.specs.declared.Fault.{Fault}
 use Rattle.logs.specs.declared.Fault.TheVariants.{Length, Form, Turn, TooMany}
-use Rattle.logs.specs.declared.table.Table.{Table}
 
 -- ---- the length
 
@@ -42,24 +41,25 @@ bad_length bytes f =
 
 -- ---- a record, by its kind
 
-pub took_as : (h : History) (n c j : ℕ) (result : Result (Unit {0}) Fault) (t : Table) {k b k₀ : ℕ} → k ≡ k₀ → b ≡ 0 → Took h n (request k₀ 0 c j) result t → Took h n (request k b c j) result t
-took_as h n c j result t e z = subst₂ (λ (x y : ℕ). Took h n (request x y c j) result t) (sym e) (sym z)
+pub took_as : (h : History) (n c j : ℕ) (result : Result (Unit {0}) Fault) (numbers states told : List ℕ) (count : ℕ) {k b k₀ : ℕ} → k ≡ k₀ → b ≡ 0
+    → TookIn h n (request k₀ 0 c j) result numbers states told count → TookIn h n (request k b c j) result numbers states told count
+took_as h n c j result numbers states told count e z = subst₂ (λ (x y : ℕ). TookIn h n (request x y c j) result numbers states told count) (sym e) (sym z)
 
 -- ---- the loop
 
 -- the events so far, and what is left
-pub record Along (bytes : List ℕ) (i : ℕ) (t : Table) : Type 0 where
+pub record Along (bytes : List ℕ) (i : ℕ) (numbers states told : List ℕ) (count : ℕ) : Type 0 where
   pub so_far : History
-  pub taken : Holds so_far i t
+  pub taken : Taken so_far i numbers states told count
   pub left : read_log bytes ≡ read_from so_far i (drop i (records bytes))
 
-pub along_start : (bytes : List ℕ) (t : Table) → length bytes % 8 ≡ 0 → length bytes ≤ most_bytes → IsBlank t → Along bytes 0 t
+pub along_start : (bytes numbers states told : List ℕ) (count : ℕ) → length bytes % 8 ≡ 0 → length bytes ≤ most_bytes → BlankIn numbers states told count → Along bytes 0 numbers states told count
 unfolding read_log opened
-along_start bytes t whole short blank =
-    let pn : Padded t.numbers 512 0 = subst (λ (l : List ℕ). Padded l 512 0) (sym blank.0) (padded_zeros 512) in
-    let ps : Padded t.states 512 0 = subst (λ (l : List ℕ). Padded l 512 0) (sym blank.1) (padded_zeros 512) in
-    let pt : Padded t.told 4096 0 = subst (λ (l : List ℕ). Padded l 4096 0) (sym blank.2) (padded_zeros 4096) in
-    let none_yet : t.count ≡ 0 = blank.3 in
+along_start bytes numbers states told count whole short blank =
+    let pn : Padded numbers 512 0 = subst (λ (l : List ℕ). Padded l 512 0) (sym blank.0) (padded_zeros 512) in
+    let ps : Padded states 512 0 = subst (λ (l : List ℕ). Padded l 512 0) (sym blank.1) (padded_zeros 512) in
+    let pt : Padded told 4096 0 = subst (λ (l : List ℕ). Padded l 4096 0) (sym blank.2) (padded_zeros 4096) in
+    let none_yet : count ≡ 0 = blank.3 in
     record {
       so_far = [];
       taken =
@@ -71,8 +71,8 @@ along_start bytes t whole short blank =
                   few = omega arith;
                   named = λ i q. absurd (omega arith);
                   stated = λ i q. absurd (omega arith);
-                  numbers_padded = subst (Padded t.numbers 512) (sym none_yet) pn;
-                  states_padded = subst (Padded t.states 512) (sym none_yet) ps;
+                  numbers_padded = subst (Padded numbers 512) (sym none_yet) pn;
+                  states_padded = subst (Padded states 512) (sym none_yet) ps;
                 };
             at = refl;
             steps_told = tt;
@@ -86,7 +86,7 @@ along_start bytes t whole short blank =
     }
 
 -- a record: its fault, or one event more
-module _ {bytes : List ℕ} {i : ℕ} {t : Table} (a : Along bytes i t) {r : Request} (there : some r ≡ get_elem? (records bytes) i) where
+module _ {bytes : List ℕ} {i : ℕ} {numbers states told : List ℕ} {count : ℕ} (a : Along bytes i numbers states told count) {r : Request} (there : some r ≡ get_elem? (records bytes) i) where
   rest : Reading
   rest = read_from (a.so_far ++ event_of r.job (want r.kind) r.job r.cell) (suc i) (drop (suc i) (records bytes))
 
@@ -100,8 +100,8 @@ module _ {bytes : List ℕ} {i : ℕ} {t : Table} (a : Along bytes i t) {r : Req
       ∙ ap (λ (k : ℕ). cond (eqb k 0) rest (faulty k i)) (sym e)
       ∙ ap (λ (b : Bool). cond b rest (faulty code i)) (ne_eqb code 0 f)
 
-  pub along_fault : (u : Table) (e : Fault) → Took a.so_far i r (Err e) u → read_log bytes ≡ faulty (code_of e) (place_of e)
-  along_fault u e t = faulty_here t.0.fault (no_grant e) ∙ ap (faulty (code_of e)) (sym t.1)
+  pub along_fault : (numbers' states' told' : List ℕ) (count' : ℕ) (e : Fault) → TookIn a.so_far i r (Err e) numbers' states' told' count' → read_log bytes ≡ faulty (code_of e) (place_of e)
+  along_fault numbers' states' told' count' e t = faulty_here t.0.fault (no_grant e) ∙ ap (faulty (code_of e)) (sym t.1)
     where
       no_grant : (e : Fault) → code_of e ≡ 0 → ⊥
       no_grant Length q = omega arith
@@ -109,10 +109,10 @@ module _ {bytes : List ℕ} {i : ℕ} {t : Table} (a : Along bytes i t) {r : Req
       no_grant (Turn p) q = omega arith
       no_grant (TooMany p) q = omega arith
 
-  pub along_next : (u : Table) → Took a.so_far i r (Ok tt) u → Along bytes (i + 1) u
+  pub along_next : (numbers' states' told' : List ℕ) (count' : ℕ) → TookIn a.so_far i r (Ok tt) numbers' states' told' count' → Along bytes (i + 1) numbers' states' told' count'
   unfolding rest
-  along_next u t =
-      subst (λ (k : ℕ). Along bytes k u) (sym (add-one i))
+  along_next numbers' states' told' count' t =
+      subst (λ (k : ℕ). Along bytes k numbers' states' told' count') (sym (add-one i))
       (record {
         so_far = a.so_far ++ event_of r.job (want r.kind) r.job r.cell;
         taken = t.next refl;
@@ -120,10 +120,13 @@ module _ {bytes : List ℕ} {i : ℕ} {t : Table} (a : Along bytes i t) {r : Req
       })
 
 -- no record is left
-module _ {bytes : List ℕ} {i : ℕ} {t : Table} (a : Along bytes i t) where
-  pub along_end : none ≡ get_elem? (records bytes) i → (h : History) × (read_log bytes ≡ events h) × Holds h (length h) t
-  along_end e =
-      (a.so_far, a.left ∙ ap (read_from a.so_far i) (drop_none (records bytes) i (sym e)), subst (λ (k : ℕ). Holds a.so_far k t) a.taken.at a.taken)
+module _ {bytes : List ℕ} {i : ℕ} {numbers states told : List ℕ} {count : ℕ} (a : Along bytes i numbers states told count) where
+  pub along_end : none ≡ get_elem? (records bytes) i → (h : History) × (read_log bytes ≡ events h) × Taken h (length h) numbers states told count
+  along_end e = (
+    a.so_far,
+    a.left ∙ ap (read_from a.so_far i) (drop_none (records bytes) i (sym e)),
+    subst (λ (k : ℕ). Taken a.so_far k numbers states told count) a.taken.at a.taken,
+  )
 
 -- ---- the reader
 

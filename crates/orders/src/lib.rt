@@ -5,8 +5,11 @@ ghost use Rattle.std.specs.Prelude.{◌≡◌, ◌+◌, ◌*◌};
 ghost use Rattle.verdicts.specs.Verdicts.{check, list_order};
 ghost use Rattle.sheet.specs.Sheet.{list_sheet};
 
-pub use checks::{Checked, check_order};
-pub use lists::{Listed, list_order, list_sheet};
+// The answers, their refusals and what those are told by (`code`, `place`): who has this crate needs no other to read an answer.
+pub use checks::{Checked, Refusal as CheckRefusal, check_order};
+pub use codes::Told;
+pub use lists::{Listed, Refusal as ListRefusal, list_order, list_sheet};
+pub use logs::Fault;
 
 // ---- as hosts call them; the crate `orders_c` exports each to C and Rust
 

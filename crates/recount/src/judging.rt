@@ -1,5 +1,5 @@
 // Verdicts on a log and an order, and the order that the lister is to give.
-use crate::counts::{Row, Said};
+use crate::counts::Said;
 use crate::kept::{LENGTH, List, meets, take_out};
 use crate::record::{Kind, Record, marks_of, open_records};
 use crate::replies::{admitted, without};
@@ -211,9 +211,10 @@ fn checker_says(h: &List, order: &List) -> Said {
     said(orders::reedtangle_check_order(log, jobs))
 }
 
-pub(crate) fn try_check(h: &mut List, row: Row, log: &List, order: &List, want: Option<Said>) {
-    let mine = judge(log).and_then(|_| check_order(log, order));
-    row.compare(h, Said::from(mine), Some(checker_says(log, order)), want);
+// The verdict, and the checker's.
+pub(crate) fn try_check(h: &List, order: &List) -> (Said, Option<Said>) {
+    let mine = judge(h).and_then(|_| check_order(h, order));
+    (Said::from(mine), Some(checker_says(h, order)))
 }
 
 // What the lister says, where its list is as it is to be.
@@ -229,10 +230,11 @@ fn lister_says(h: &List, room: usize, order: &List) -> Option<Said> {
     Some(said)
 }
 
-pub(crate) fn try_list(h: &mut List, row: Row, log: &List, room: usize, want: Option<Said>) {
-    let order = laid(log);
-    let mine = judge(log).and_then(|_| list_order(log, room, &order));
+// The answer, and the lister's.
+pub(crate) fn try_list(h: &List, room: usize) -> (Said, Option<Said>) {
+    let order = laid(h);
+    let mine = judge(h).and_then(|_| list_order(h, room, &order));
     // where the answer is no order, nothing is put into the list
     let list = if mine.is_ok() { order } else { no_order() };
-    row.compare(h, Said::from(mine), lister_says(log, room, &list), want);
+    (Said::from(mine), lister_says(h, room, &list))
 }

@@ -178,8 +178,10 @@ fn try_round(h: &mut List, round: u32, r: u64) {
         order.swap_next(((r >> 20) % 16) as usize);
     }
     let room = order.size().wrapping_add((r % 3) as usize);
-    try_check(h, Row::STREAM_ORDERS, &log, &order, None);
-    try_list(h, Row::STREAM_LISTS, &log, room.wrapping_sub(1), None);
+    let (mine, theirs) = try_check(&log, &order);
+    Row::STREAM_ORDERS.compare(h, mine, theirs, None);
+    let (mine, theirs) = try_list(&log, room.wrapping_sub(1));
+    Row::STREAM_LISTS.compare(h, mine, theirs, None);
 }
 
 // Twenty windows of each shape, and nine rounds after each.

@@ -158,16 +158,16 @@ fn tell_records(h: &mut List, fields: &Fields) {
 }
 
 fn tell_order(h: &mut List, fields: &Fields) {
-    let log = *h;
     let k = fields.last().wrapping_sub(1);
     let order = fields.order(k);
-    try_check(h, Row::ORDERS, &log, &order, fields.want(k));
+    let (mine, theirs) = try_check(h, &order);
+    Row::ORDERS.compare(h, mine, theirs, fields.want(k));
 }
 
 fn tell_list(h: &mut List, fields: &Fields) {
-    let log = *h;
     let room = fields.number(1) as usize;
-    try_list(h, Row::LISTS, &log, room, fields.want(2));
+    let (mine, theirs) = try_list(h, room);
+    Row::LISTS.compare(h, mine, theirs, fields.want(2));
 }
 
 // A line: it begins a history, a state or a log, or has more of a log, or asks, or is one of the arbiter's slots, which has no second telling. One that cannot be read is asked as a row, and differs.

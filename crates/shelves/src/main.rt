@@ -76,7 +76,8 @@ fn try_lines(lines: &[[u8; LINE]]) -> Counts {
                 catalogue = Catalogue::fresh(first_in(line));
             }
             _ => {
-                let answer = catalogue.ask(request_in(line));
+                let (stepped, answer) = catalogue.step(request_in(line));
+                catalogue = stepped;
                 counts.reply(answer, number(&line[25..27]), number(&line[28..38]));
             }
         }

@@ -14,6 +14,8 @@ use Rattle.sums.proofs.word_at.Kinds as word_kinds
 use Rattle.sums.proofs.word_at.Reads as word_reads
 use Rattle.sums.proofs.add_up.Kinds as add_kinds
 use Rattle.sums.proofs.add_up.Reads as add_reads
+use Rattle.sums.proofs.put_run.Kinds as run_kinds
+use Rattle.sums.proofs.put_run.Reads as run_reads
 
 -- two results at the same arguments are equal; n lifetimes
 abbrev pub One : (n : ℕ) (ps : List (ParamKind n)) (r : ResultKind n) → Out n ps r → Type 0
@@ -31,3 +33,7 @@ one_word_at κs a x y s t p q = one_word p q
 
 pub one_add_up : One 1 add_kinds.ps add_kinds.r add_reads.Post
 one_add_up κs a x y s t p q = same_sums x y p q
+
+-- what the bytes hold then
+pub one_put_run : (κs : Lfts 2) (a : Dens κs run_kinds.ps) (x y : (res_t run_kinds.r κs).Denot) (s t : AtExit (ended_of 2 run_kinds.ps run_kinds.r) κs) → run_reads.Post κs a x s → run_reads.Post κs a y t → s.1.0.now ≡ t.1.0.now
+one_put_run κs a x y s t p q = p ∙ sym q

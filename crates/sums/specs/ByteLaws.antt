@@ -1,10 +1,11 @@
 -- Bytes: four that are put down or read, a run put down after another (`put_next`), and the words before a place.
 -- Assumes nothing.
-use Rattle.std.specs.Prelude.{◌≡◌, ℕ, suc, ◌+◌, ◌*◌, ◌/◌, ◌%◌, ◌<◌, ◌≤◌, zero, false, List, [], ◌∷◌, ◌++◌, length, take, drop, set, replicate, ◌≢◌, nat_eq, slice_index, slice_set, slice_index_or, refl}
+use Rattle.std.specs.Prelude.{◌≡◌, Bool, cond, leb, ℕ, suc, ◌+◌, ◌*◌, ◌/◌, ◌%◌, ◌<◌, ◌≤◌, zero, false, List, [], ◌∷◌, ◌++◌, length, take, drop, set, replicate, ◌≢◌, nat_eq, slice_index, slice_set, slice_index_or, refl}
 use Rattle.std.specs.Int.{w8, w32, from_le_bytes}
 use Rattle.std.specs.Simd.{first_chunks}
 use Rattle.std.proofs.Common.{Fits, sym, ap, ap₂, ◌∙◌, append_assoc, append-nil, zero-add, add-zero, add-one, arith, length-append, length-drop, take-append-drop, length-take-le, take_at, drop_at, get_or-drop, drop-drop, take-add}
 use Rattle.std.proofs.lemmas.List.{length-replicate, get_or-replicate}
+use borrow.Author.Tests.{le-leb}
 use Rattle.std.proofs.Math.Seq.{take-length, take-append_seam, drop-append_seam, paste, paste-suc}
 use Rattle.std.proofs.lemmas.List.Edits.{sets-eq}
 use Rattle.text.specs.Lays.{Lays}
@@ -131,6 +132,10 @@ sums_of a = ap₂ (λ (x y : ℕ). bytes_of 4 x ++ bytes_of 4 y) a.of_words a.of
 -- a run put down as a text is, where there is room for it
 pub run_put : {at r : ℕ} {run d after : List ℕ} → at + length run ≤ length d → Lays at run d after r → after ≡ with_run d at run
 run_put {at} {r} {run} {d} {after} h l = rw (lays_room at run d h) at l.content
+
+-- the same of a run that `put_run` puts
+pub run_at : (d : List ℕ) (at : ℕ) (run : List ℕ) {after : List ℕ} → at + length run ≤ length d → after ≡ cond (leb (at + length run) (length d)) (with_run d at run) d → after ≡ with_run d at run
+run_at d at run h e = e ∙ ap (λ (b : Bool). cond b (with_run d at run) d) (le-leb (at + length run) (length d) h)
 
 -- a run put down from a place on is a copy of all of it
 pub put_all : (d run : List ℕ) (at : ℕ) → paste d at run (length run) ≡ with_run d at run

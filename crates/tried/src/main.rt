@@ -257,6 +257,29 @@ fn told(answer: Answer) -> Reply {
     }
 }
 
+// One request in place, on the parts of a state, which are lent here and not by `State::ask`: a slip there is not in both ways.
+fn in_place(state: &mut State, asked: [u8; 8]) -> Answer {
+    arbiter::step_in_place(
+        &mut state.next,
+        &mut state.free,
+        &mut state.numbers,
+        &mut state.leads,
+        &mut state.sets,
+        &mut state.ports,
+        asked,
+    )
+}
+
+// Are two states the same? Field by field here, and not by the `==` of the arbiter, which is no code of this program.
+fn same_state(a: &State, b: &State) -> bool {
+    a.next == b.next
+        && a.free == b.free
+        && a.numbers == b.numbers
+        && a.leads == b.leads
+        && a.sets == b.sets
+        && a.ports == b.ports
+}
+
 // Is the job in the lowest of the slots that were free?
 fn took_lowest(free: u32, state: &State, job: u32) -> bool {
     let lowest = free.trailing_zeros() as usize;
@@ -475,10 +498,10 @@ impl Trial {
         let asked = request(kind, byte1, u32::from(cell), job);
         let free = self.now.free;
         let (one, answer) = self.now.step(asked);
-        let mut other = self.now;
-        let is_other_way = other.ask(asked) == answer && other == one;
-        let is_as_left = !self.is_left || one == self.written;
         let came = told(answer);
+        let mut other = self.now;
+        let is_other_way = told(in_place(&mut other, asked)) == came && same_state(&other, &one);
+        let is_as_left = !self.is_left || same_state(&one, &self.written);
         // a kind is the number that the line names, an open is 1
         let is_lowest = kind != 1 || came.code != 0 || took_lowest(free, &one, answer.job().0);
         self.go_on_from(one);

@@ -1,4 +1,4 @@
--- `Table::take_end` meets its contract: a law of TakeLaws for each way out, where the job was found or was not. Assumes nothing.
+-- `logs::take_end` meets its contract: a law of TakeLaws for each way out, where the job was found or was not. Assumes nothing.
 use mathlib.Core.Path.{refl}
 use mathlib.Core.Logic.{inl, inr}
 use native.Mathlib.Omega.{arith}
@@ -6,7 +6,7 @@ use Rattle.std.proofs.lemmas.Result.{err_from_is_err_and}
 use Rattle.tallies.specs.TableLaws.{rises}
 use Rattle.tallies.specs.TakeLaws.{takes_end_ill, takes_end_unknown, takes_end_shut, takes_end}
 use Rattle.logs.proofs.FoundLaws.{none_found, as_found}
-use Rattle.logs.proofs.table.Table.take_end.Goals as goal
+use Rattle.logs.proofs.take_end.Goals as goal
 
 pub returns-then-cell-ne0 : goal.returns-then-cell-ne0
 returns-then-cell-ne0 c = λ h t. (takes_end_ill c.args.cell c.args.job c.if-cell-ne0.true, refl)
@@ -24,4 +24,4 @@ returns-then-stand-i-gt-WRITTEN c =
 pub returns : goal.returns
 returns c =
     λ h t. takes_end t (inl (as_found _ _ _ c.in_ok-i.ensures.ok_part c.find.ensures.0)) c.if-cell-ne0.false (let l = (as_found _ _ _ c.in_ok-i.ensures.ok_part c.find.ensures.0).0 in λ e. omega arith) c.if-stand-i-gt-WRITTEN.false
-    (let l = t.wide in let p = c.requires in omega arith) refl (let l = t.jobs.states_padded.wide in let p = t.jobs.few in omega arith)
+    (let l = t.wide in let p = c.requires.1 in omega arith) refl (let l = t.jobs.states_padded.wide in let p = t.jobs.few in omega arith)
