@@ -63,7 +63,7 @@ impl Catalogue {
         Catalogue(State::fresh(first))
     }
 
-    // One request, in place. A refusal leaves the state as it was. By `coarse_in_place`, which C calls too: its parts are lent one by one, as C lends them.
+    // One request, in place. A refusal leaves the state as it was. By `coarse_in_place`, as the call for C: the parts are lent one by one, as C lends them.
     pub fn ask(&mut self, request: [u8; 8]) -> Answer
         ensures answered { numbered result ≡ coarse_answer (held_of self.old.0) (request_of request) }
         ensures left { held_of self.new.0 ≡ coarse_next (held_of self.old.0) (request_of request) }
